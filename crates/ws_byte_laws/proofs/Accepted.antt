@@ -30,8 +30,10 @@ use Rattle.ws_steps.specs.Bytes as byte
 use Rattle.ws_steps.specs.Slots as realm
 use Rattle.ws_steps.specs.Slots.{Stream, Done, has_byte, has_readable, readable_at, byte_at, is_byte_stream, as_byte, empty, causes, no_byte, stream_of_request}
 use Rattle.ws_steps.specs.Descriptors.{respond_throws}
-use Rattle.ws_steps.specs.Calls.{Begun, begin, unsupported}
-use Rattle.ws_steps.specs.Calls as calls
+use Rattle.ws_steps.specs.Begun.{Begun, unsupported}
+use Rattle.ws_steps.specs.Calls.{begin}
+use Rattle.ws_steps.specs.Begun as replying
+use Rattle.ws_steps.specs.ControllerCalls as controller_calls
 use Rattle.ws_steps.specs.Jobs.{job_effects, job_begun, begin_job}
 use Rattle.ws_steps.specs.Promises.{next_job}
 use Rattle.ws_steps.specs.Turns.{row, moments}
@@ -125,10 +127,10 @@ module _ (i : StreamId) where
 
   -- an enqueue
 
-  enqueue_accepted : (j : StreamId) (v : Value) (s : realm.Slots) → has_byte j s ≡ true → enters (calls.enqueue_bytes j s v).done ≡ accepted_by i (EnqueueCall j v) s (calls.enqueue_bytes j s v).reply
+  enqueue_accepted : (j : StreamId) (v : Value) (s : realm.Slots) → has_byte j s ≡ true → enters (controller_calls.enqueue_bytes j s v).done ≡ accepted_by i (EnqueueCall j v) s (controller_calls.enqueue_bytes j s v).reply
   enqueue_accepted j (PlainValue v) s is = none-of s
   enqueue_accepted j (Bytes b) s is =
-      either (λ (c : Begun). enters c.done ≡ accepted_by i (EnqueueCall j (Bytes b)) s c.reply) (not (is_empty b) && byte.can_take (byte_at j s)) (calls.does (Byte j (own.Enqueue b) ∷ []) s) (calls.throws_type_error s)
+      either (λ (c : Begun). enters c.done ≡ accepted_by i (EnqueueCall j (Bytes b)) s c.reply) (not (is_empty b) && byte.can_take (byte_at j s)) (replying.does (Byte j (own.Enqueue b) ∷ []) s) (replying.throws_type_error s)
       (λ can. byte-enters j (own.Enqueue b) s ∙ both (is_same i j) (has_byte j s) (can_take (byte_at j s)) b is (both_right (not (is_empty b)) (byte.can_take (byte_at j s)) can))
       (λ cannot. none-of s)
     where
@@ -158,7 +160,7 @@ module _ (i : StreamId) where
 
   respond_unless_accepted : (q : RequestId) (j : StreamId) (b : List ℕ) (s : realm.Slots) (fault : Option Fault) → stream_of_request q s ≡ Some j → (byte_at j s).request ≡ Some q
       → respond_throws (length b) (byte_at j s).stream.state (byte_at j s).descriptors ≡ fault → (has_byte i s ≡ true → Backed (byte_at i s))
-      → enters (calls.respond_unless j b s fault).done ≡ accepted_by i (RespondCall q b) s (calls.respond_unless j b s fault).reply
+      → enters (controller_calls.respond_unless j b s fault).done ≡ accepted_by i (RespondCall q b) s (controller_calls.respond_unless j b s fault).reply
   respond_unless_accepted q j b s None at r t f =
       byte-enters j (own.Respond b) s
       ∙ (if_same (is_same i j) _ b (λ same.
@@ -172,19 +174,19 @@ module _ (i : StreamId) where
       there_is o q e = grind arith
   respond_unless_accepted q j b s (Some fault) at r t f = none-of s ∙ thrown fault
     where
-      thrown : (fault : Fault) → [] ≡ accepted_by i (RespondCall q b) s (calls.thrown_by fault)
+      thrown : (fault : Fault) → [] ≡ accepted_by i (RespondCall q b) s (controller_calls.thrown_by fault)
       thrown fault = grind arith
 
-  is_live : (q : RequestId) (r : Option RequestId) → calls.is_request q r ≡ true → r ≡ Some q
+  is_live : (q : RequestId) (r : Option RequestId) → controller_calls.is_request q r ≡ true → r ≡ Some q
   is_live q None e = cc
   is_live q (Some r) e = ap (λ (n : ℕ). Some (record { 0 = n })) (sym (eq_numbers q.0 r.0 e))
 
   respond_accepted : (q : RequestId) (b : List ℕ) (s : realm.Slots) (o : Option StreamId) → stream_of_request q s ≡ o → (has_byte i s ≡ true → Backed (byte_at i s))
-      → enters (calls.respond q b s o).done ≡ accepted_by i (RespondCall q b) s (calls.respond q b s o).reply
+      → enters (controller_calls.respond q b s o).done ≡ accepted_by i (RespondCall q b) s (controller_calls.respond q b s o).reply
   respond_accepted q b s None at f = none-of s
   respond_accepted q b s (Some j) at f =
-      either (λ (c : Begun). enters c.done ≡ accepted_by i (RespondCall q b) s c.reply) (calls.is_request q (byte_at j s).request)
-      (calls.respond_unless j b s (respond_throws (length b) (byte_at j s).stream.state (byte_at j s).descriptors)) (calls.throws_type_error s)
+      either (λ (c : Begun). enters c.done ≡ accepted_by i (RespondCall q b) s c.reply) (controller_calls.is_request q (byte_at j s).request)
+      (controller_calls.respond_unless j b s (respond_throws (length b) (byte_at j s).stream.state (byte_at j s).descriptors)) (replying.throws_type_error s)
       (λ is. respond_unless_accepted q j b s (respond_throws (length b) (byte_at j s).stream.state (byte_at j s).descriptors) at (is_live q (byte_at j s).request is) refl f)
       (λ isnt. none-of s)
 
@@ -196,15 +198,15 @@ module _ (i : StreamId) where
   not_byte j v s ReplyDone n = rw n (if_none (is_same i j) (value_bytes v))
   not_byte j v s _ n = refl
 
-  readable_idle : (j : StreamId) (v : Value) (s : realm.Slots) → Each IsIdle (calls.for_readable j (calls.enqueue v j) s).done.caused
+  readable_idle : (j : StreamId) (v : Value) (s : realm.Slots) → Each IsIdle (replying.for_readable j (controller_calls.enqueue v j) s).done.caused
   readable_idle j v s = grind arith
 
   pub call_accepted : (c : Call) (s : realm.Slots) → (has_byte i s ≡ true → Backed (byte_at i s)) → enters (begin c s).done ≡ accepted_by i c s (begin c s).reply
   unfolding begin
   call_accepted (EnqueueCall j v) s f =
-      either (λ (b : Begun). enters b.done ≡ accepted_by i (EnqueueCall j v) s b.reply) (has_byte j s) (calls.enqueue_bytes j s v) (calls.for_readable j (calls.enqueue v j) s)
+      either (λ (b : Begun). enters b.done ≡ accepted_by i (EnqueueCall j v) s b.reply) (has_byte j s) (controller_calls.enqueue_bytes j s v) (replying.for_readable j (controller_calls.enqueue v j) s)
       (λ is. enqueue_accepted j v s is)
-      (λ isnt. none_enters (calls.for_readable j (calls.enqueue v j) s).done (readable_idle j v s) ∙ sym (not_byte j v s (calls.for_readable j (calls.enqueue v j) s).reply isnt))
+      (λ isnt. none_enters (replying.for_readable j (controller_calls.enqueue v j) s).done (readable_idle j v s) ∙ sym (not_byte j v s (replying.for_readable j (controller_calls.enqueue v j) s).reply isnt))
   call_accepted (RespondCall q b) s f = respond_accepted q b s (stream_of_request q s) refl f
   call_accepted c s f = none_enters (begin c s).done (each-map (IsIdleFor c) IsIdle (idle_for c refl) (begin c s).done.caused (call_idle c s))
 

@@ -41,13 +41,17 @@ use Rattle.ws_steps.specs.Slots.{Stream, ByteStream, Done, has_byte, byte_at, is
 use Rattle.ws_steps.specs.Operations.{pipe_operation}
 use Rattle.ws_steps.specs.Pipes as piping
 use Rattle.ws_steps.specs.Run.{run, reply_to, after_call, older}
-use Rattle.ws_steps.specs.Calls.{Begun, begin, finish_bytes}
+use Rattle.ws_steps.specs.Begun.{Begun}
+use Rattle.ws_steps.specs.ControllerCalls.{finish_bytes}
+use Rattle.ws_steps.specs.Calls.{begin}
+use Rattle.ws_steps.specs.Begun as replying
+use Rattle.ws_steps.specs.ControllerCalls as controller_calls
 use Rattle.ws_steps.specs.Calls as calls
 use Rattle.ws_steps.specs.Turns.{row, performed}
 use Rattle.ws_steps.specs.ByteLaws.{IsErroredByClose, EachThrowingCloseErrs}
 use Rattle.ws_laws.proofs.Tables.{on_source-byte, on_byte-same}
 use Rattle.ws_laws.proofs.Lists.{Each, each-append}
-use Rattle.ws_laws.proofs.Rows.{row-streams}
+use Rattle.ws_laws.proofs.Apart.{row-streams}
 use Rattle.ws_laws.proofs.Walker.{untold, performed-goes}
 use Rattle.ws_byte_laws.specs.Descriptors.{Held, reads}
 
@@ -136,8 +140,8 @@ module _ (i : StreamId) (s : realm.Slots) (is : has_byte i s ≡ true) (c : byte
   begins =
       let d : Done = causes (OnReadable i Close ∷ []) s in
       rw is
-      (ap (λ (k : Bool). if k then calls.begun (calls.close_reply (byte_at i s)) d else calls.throws_type_error s) (can_of (byte_at i s) c)
-      ∙ ap (λ (k : Bool). calls.begun (if k then Throws ThrownTypeError else ReplyDone) d) c)
+      (ap (λ (k : Bool). if k then replying.begun (controller_calls.close_reply (byte_at i s)) d else replying.throws_type_error s) (can_of (byte_at i s) c)
+      ∙ ap (λ (k : Bool). replying.begun (if k then Throws ThrownTypeError else ReplyDone) d) c)
 
   abbrev Before : realm.Slots → List Effect → Type 0
   Before z es = (z ≡ s) × (es ≡ OnReadable i Close ∷ [])

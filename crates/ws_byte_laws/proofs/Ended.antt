@@ -43,7 +43,8 @@ use Rattle.ws_steps.specs.Turns.{row}
 use Rattle.ws_laws.proofs.EachCall.{each_call}
 use Rattle.ws_laws.proofs.Lists.{Each, each-append, each-map}
 use Rattle.ws_laws.proofs.PipeDoes.{PipeCauses}
-use Rattle.ws_laws.proofs.Rows.{ChunkCauses, EndCauses, ErrorCauses, SignalCauses, row-causes, row-streams, IsApart}
+use Rattle.ws_laws.proofs.Apart.{row-streams, IsApart}
+use Rattle.ws_laws.proofs.Causes.{ChunkCauses, EndCauses, ErrorCauses, SignalCauses, row-causes}
 use Rattle.ws_laws.proofs.StaysBytes.{row-byte, begin-byte}
 use Rattle.ws_laws.proofs.Tables.{either, same_id, byte_acts, on_byte-same, on_byte-other, on_source-byte, on_source-other, on_writable-look}
 use Rattle.ws_laws.proofs.TransformDoes.{TransformCauses}

@@ -39,7 +39,8 @@ use Rattle.ws_laws.proofs.Tables.{same_id, is_same-refl, eq_numbers, unequal_num
 use Rattle.ws_laws.proofs.ReadableDoes.{OfReadable, is_taking}
 use Rattle.ws_laws.proofs.ByteDoes.{byte_readable-does, byte-does}
 use Rattle.ws_laws.proofs.Lists.{Each, each-append}
-use Rattle.ws_laws.proofs.Rows.{ChunkCauses, EndCauses, ErrorCauses, row-causes, row-streams}
+use Rattle.ws_laws.proofs.Apart.{row-streams}
+use Rattle.ws_laws.proofs.Causes.{ChunkCauses, EndCauses, ErrorCauses, row-causes}
 use Rattle.ws_laws.proofs.Begin.{begin-makes}
 use Rattle.ws_laws.proofs.Shapes.{StreamShape, stream_shape, row-stream_shapes}
 use Rattle.ws_laws.proofs.StaysBytes.{row-byte}

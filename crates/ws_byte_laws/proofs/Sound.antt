@@ -25,8 +25,9 @@ use Rattle.ws_steps.specs.Bytes as byte
 use Rattle.ws_steps.specs.Writable as writable
 use Rattle.ws_steps.specs.Slots as realm
 use Rattle.ws_steps.specs.Slots.{Stream, ReadableStream, ByteStream, WritableStream, Done, has_byte, byte_at, is_byte_stream, as_byte, empty}
-use Rattle.ws_steps.specs.Calls.{Begun, begin, unsupported}
-use Rattle.ws_steps.specs.Calls as calls
+use Rattle.ws_steps.specs.Begun.{Begun, unsupported}
+use Rattle.ws_steps.specs.Calls.{begin}
+use Rattle.ws_steps.specs.ControllerCalls as controller_calls
 use Rattle.ws_steps.specs.Jobs.{job_effects}
 use Rattle.ws_steps.specs.Operations.{writable_operation}
 use Rattle.ws_steps.specs.Turns.{row}
@@ -37,7 +38,7 @@ use Rattle.ws_steps.specs.ByteLaws.{EnteredBytesWereAccepted}
 use Rattle.ws_steps.specs.declared.writable.WritableOperation.{WritableOperation}
 use Rattle.ws_laws.proofs.Tables.{same_id, eq_numbers, unequal_numbers, on_byte-same, on_byte-other, on_source-byte, on_source-other, on_writable-look, place_last, place_before}
 use Rattle.ws_laws.proofs.Lists.{Each, each-append}
-use Rattle.ws_laws.proofs.Rows.{IsApart, row-streams}
+use Rattle.ws_laws.proofs.Apart.{IsApart, row-streams}
 use Rattle.ws_laws.proofs.Begin.{begin-makes}
 use Rattle.ws_laws.proofs.StaysBytes.{row-byte}
 use Rattle.ws_laws.proofs.Walker.{Stays, run-stays}
@@ -159,7 +160,7 @@ module _ (i : StreamId) where
   first_may s [] b n = tt
   first_may s (e ∷ es) b n = (no_make_may s e n.0, b)
 
-  request_may : (j : StreamId) (s : realm.Slots) (q : Option RequestId) (ds : List Descriptor) → ds ≡ (byte_at j s).descriptors → FirstMay (calls.request_by j s q ds).done.slots (calls.request_by j s q ds).done.caused
+  request_may : (j : StreamId) (s : realm.Slots) (q : Option RequestId) (ds : List Descriptor) → ds ≡ (byte_at j s).descriptors → FirstMay (controller_calls.request_by j s q ds).done.slots (controller_calls.request_by j s q ds).done.caused
   request_may j s q [] e = tt
   request_may j s (Some q) (d ∷ ds) e = tt
   request_may j s None (d ∷ ds) e = (λ same n. let eq : i ≡ j = same_id i j same in let none : d ∷ ds ≡ [] = e ∙ (rw (← eq) n) in cc, tt)
@@ -167,7 +168,7 @@ module _ (i : StreamId) where
   call_may : (c : Call) (s : realm.Slots) (ask : Bool) → ask ≡ asks c → FirstMay (begin c s).done.slots (begin c s).done.caused
   unfolding begin
   call_may (Request j) s ask e =
-      either (λ (b : Begun). FirstMay b.done.slots b.done.caused) (has_byte j s) (calls.request j s) (unsupported s) (λ is. request_may j s (byte_at j s).request (byte_at j s).descriptors refl) (λ isnt. tt)
+      either (λ (b : Begun). FirstMay b.done.slots b.done.caused) (has_byte j s) (controller_calls.request j s) (unsupported s) (λ is. request_may j s (byte_at j s).request (byte_at j s).descriptors refl) (λ isnt. tt)
   call_may c s ask e = first_may (begin c s).done.slots (begin c s).done.caused (begin-behind c s) (begin-no_make c s refl)
 
   job_none : (job : Job) → Each IsNoByte (job_effects job)

@@ -21,7 +21,8 @@ use Rattle.ws_steps.specs.Bytes as byte
 use Rattle.ws_steps.specs.Slots as realm
 use Rattle.ws_steps.specs.Slots.{Stream, ByteStream, Done, has_byte, byte_at, is_byte_stream, as_byte, empty, with_promises}
 use Rattle.ws_steps.specs.Run.{Entry, Called, Worked, Heard, step, run, begun_by}
-use Rattle.ws_steps.specs.Calls.{Begun, begin}
+use Rattle.ws_steps.specs.Begun.{Begun}
+use Rattle.ws_steps.specs.Calls.{begin}
 use Rattle.ws_steps.specs.Jobs.{job_effects, begin_job, job_begun}
 use Rattle.ws_steps.specs.Promises.{next_job}
 use Rattle.ws_steps.specs.Turns.{row}
@@ -37,7 +38,7 @@ use Rattle.ws_laws.proofs.Begin.{begin-makes}
 use Rattle.ws_laws.proofs.PipeDoes.{PipeCauses}
 use Rattle.ws_laws.proofs.TransformDoes.{TransformCauses}
 use Rattle.ws_laws.proofs.TeeDoes.{TeeCauses}
-use Rattle.ws_laws.proofs.Rows.{ChunkCauses, EndCauses, ErrorCauses, SignalCauses, row-causes}
+use Rattle.ws_laws.proofs.Causes.{ChunkCauses, EndCauses, ErrorCauses, SignalCauses, row-causes}
 use Rattle.ws_laws.proofs.StaysBytes.{row-byte, begin-byte}
 use Rattle.ws_laws.proofs.Walker.{GoesUntold, RestsUntold, step-goes_untold, performed-goes}
 use Rattle.ws_steps.specs.declared.pipes.SignalOperation.{SignalOperation}

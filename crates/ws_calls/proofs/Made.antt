@@ -16,7 +16,9 @@ use Rattle.ws_steps.specs.declared.promises.Micro.{Micro}
 use Rattle.ws_steps.specs.declared.promises.Micro.TheVariants.{PipeLook, PipeWrite, PipeNoParts, TeeHand}
 use Rattle.ws_steps.specs.declared.promises.Step.{Step}
 use Rattle.ws_steps.specs.declared.tee.Half.TheVariants.{First, Second}
-use Rattle.ws_steps.specs.Calls.{Begun, add_port, end_of, begin}
+use Rattle.ws_steps.specs.Begun.{Begun}
+use Rattle.ws_steps.specs.PipeCalls.{add_port, end_of}
+use Rattle.ws_steps.specs.Calls.{begin}
 use Rattle.ws_steps.specs.Jobs.{steps, returned, resolved, micro_steps, job_effects, job_begun, begin_job}
 use Rattle.ws_steps.specs.Pipes as pipe
 use Rattle.ws_steps.specs.Places.{prices_of, own, copies_alone}

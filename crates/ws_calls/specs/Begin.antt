@@ -13,7 +13,9 @@ use Rattle.ws_steps.specs.declared.port.Side.{Side}
 use Rattle.ws_steps.specs.Pipes.{new_signal}
 use Rattle.ws_steps.specs.Places.{prices_of, queued_alone, requests_alone, members_alone, descriptors_alone, copies_alone}
 use Rattle.ws_steps.specs.Slots.{Done}
-use Rattle.ws_steps.specs.Calls.{Begun, with_renewed, reject_renewed, add_port, start_end}
+use Rattle.ws_steps.specs.Begun.{Begun}
+use Rattle.ws_steps.specs.LockCalls.{with_renewed, reject_renewed}
+use Rattle.ws_steps.specs.PipeCalls.{add_port, start_end}
 use Rattle.ws_tables.specs.View.{slots_of}
 use Rattle.ws_tables.specs.Room.{places_of, queued_in, requested_in, described_in, CanTurn, HasRoomForAll, IsKept, KeepsRecords}
 use Rattle.ws_tables.specs.declared.tables.Stream.{Stream}

@@ -1,5 +1,7 @@
 //! The calls on BYOB readers and requests, which byte streams alone have.
 ghost use Rattle.std.specs.Prelude.{◌≡◌, true, length};
+ghost use Rattle.ws_steps.specs.LockCalls as lock_calls;
+ghost use Rattle.ws_steps.specs.ControllerCalls as controller_calls;
 ghost use Rattle.ws_steps.specs.Calls as calls;
 ghost use Rattle.ws_steps.specs.Descriptors.{respond_throws};
 ghost use Rattle.ws_steps.specs.Slots.{byte_at, has_byte};
@@ -36,7 +38,7 @@ pub(crate) fn get_byob(tables: &mut Tables, i: StreamId) -> Reply
 
 /// Whether a room of this length may be viewed by elements of this size: of 1, 2, 4 or 8 bytes, and whole ones.
 fn is_view(room: usize, element: u8) -> bool
-    ensures { result ≡ calls.is_view room element }
+    ensures { result ≡ lock_calls.is_view room element }
 {
     (element == 1 || element == 2 || element == 4 || element == 8) && room % element as usize == 0
 }
@@ -44,7 +46,7 @@ fn is_view(room: usize, element: u8) -> bool
 /// ReadableStreamBYOBReaderRead of a reader that has the stream.
 fn read_into_stream(tables: &mut Tables, i: StreamId, room: Room, element: u8) -> Reply
     requires ready { CanBegin tables.old }
-    ensures { Answers (calls.read_into room element 1 i (slots_of tables.old)) result tables.old tables.new }
+    ensures { Answers (lock_calls.read_into room element 1 i (slots_of tables.old)) result tables.old tables.new }
 {
     let promise = tables.promises.fresh();
     let operation = ByteOperation::PullInto {
@@ -123,7 +125,7 @@ fn respond_to(tables: &mut Tables, i: StreamId, bytes: Chunk) -> Reply
     requires there { has_byte i (slots_of tables.old) ≡ true }
     requires ready { CanBegin tables.old }
     ensures { Answers
-        (calls.respond_unless i bytes (slots_of tables.old) (respond_throws (length bytes) (byte_at i (slots_of tables.old)).stream.state (byte_at i (slots_of tables.old)).descriptors))
+        (controller_calls.respond_unless i bytes (slots_of tables.old) (respond_throws (length bytes) (byte_at i (slots_of tables.old)).stream.state (byte_at i (slots_of tables.old)).descriptors))
         result tables.old tables.new }
 {
     if let Some(fault) = tables.byte(i).respond_throws(bytes.len()) {

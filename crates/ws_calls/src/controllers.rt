@@ -1,5 +1,6 @@
 //! The calls on controllers, and the looks at a stream.
 ghost use Rattle.std.specs.Prelude.{◌≡◌, Result, false};
+ghost use Rattle.ws_steps.specs.ControllerCalls as controller_calls;
 ghost use Rattle.ws_steps.specs.Calls as calls;
 ghost use Rattle.ws_steps.specs.Slots.{has_readable};
 ghost use Rattle.ws_calls.specs.Begin.{Answers, CanBegin};
@@ -16,7 +17,7 @@ use ws_value::{HostId, Plain, StreamId, Value};
 
 /// What a host's answer settles a promise with.
 fn outcome_of(answer: Answer) -> Result<Plain, Plain>
-    ensures { result ≡ calls.outcome_of answer }
+    ensures { result ≡ controller_calls.outcome_of answer }
 {
     match answer {
         Answer::Ok => Ok(Plain::Undefined),
@@ -29,7 +30,7 @@ fn outcome_of(answer: Answer) -> Result<Plain, Plain>
 fn enqueue_bytes(tables: &mut Tables, i: StreamId, chunk: Value) -> Reply
     requires bytes { has_readable i (slots_of tables.old) ≡ false }
     requires ready { CanBegin tables.old }
-    ensures { Answers (calls.enqueue_call i chunk (slots_of tables.old)) result tables.old tables.new }
+    ensures { Answers (controller_calls.enqueue_call i chunk (slots_of tables.old)) result tables.old tables.new }
 {
     if !tables.has_byte(i) {
         return UNSUPPORTED;
@@ -72,7 +73,7 @@ pub(crate) fn enqueue(tables: &mut Tables, i: StreamId, chunk: Value) -> Reply
 fn finish_bytes(tables: &mut Tables, i: StreamId) -> Reply
     requires bytes { has_readable i (slots_of tables.old) ≡ false }
     requires ready { CanBegin tables.old }
-    ensures { Answers (calls.finish_call i (slots_of tables.old)) result tables.old tables.new }
+    ensures { Answers (controller_calls.finish_call i (slots_of tables.old)) result tables.old tables.new }
 {
     if !tables.has_byte(i) {
         return UNSUPPORTED;

@@ -2,6 +2,7 @@
 ghost use Rattle.std.specs.Prelude.{◌≡◌, ◌<◌, ◌≤◌, ◌+◌, true, length, vec_len};
 ghost use Rattle.ws_promise.specs.Seen.{HasPromiseRoom};
 ghost use Rattle.ws_steps.specs.Slots.{has_source};
+ghost use Rattle.ws_steps.specs.LockCalls as lock_calls;
 ghost use Rattle.ws_steps.specs.Calls as calls;
 ghost use Rattle.ws_calls.specs.Begin.{Answers, CanBegin, Renews, released_by};
 ghost use Rattle.ws_steps.specs.declared.calls.Call.TheVariants as call;
@@ -17,7 +18,7 @@ use ws_value::{Fault, LockId, Plain, PromiseId, StreamId};
 fn renew(tables: &mut Tables, promise: PromiseId, kept: bool) -> PromiseId
     requires promise_room { HasPromiseRoom 1 tables.old.promises }
     requires effect_room { length tables.old.caused.effects < tables.old.caused.capacity }
-    ensures id { result ≡ calls.renewed promise tables.old.promises.table kept }
+    ensures id { result ≡ lock_calls.renewed promise tables.old.promises.table kept }
     ensures renews { Renews kept tables.old tables.new }
     ensures made { length tables.new.promises.table.entries ≤ length tables.old.promises.table.entries + 1 }
 {
@@ -57,7 +58,7 @@ fn release_reader(
     requires lock { l.0 < vec_len tables.old.locks }
     requires there { has_source i (slots_of tables.old) ≡ true }
     requires ready { CanBegin tables.old }
-    ensures { Answers (calls.release_reader (released_by kind) l closed i (slots_of tables.old))
+    ensures { Answers (lock_calls.release_reader (released_by kind) l closed i (slots_of tables.old))
         result tables.old tables.new }
 {
     let kept = tables.is_source_readable(i);
@@ -74,7 +75,7 @@ fn release_reader(
 fn release_writer(tables: &mut Tables, l: LockId, i: StreamId, writer: Writer) -> Reply
     requires lock { l.0 < vec_len tables.old.locks }
     requires ready { CanBegin tables.old }
-    ensures { Answers (calls.release_writer l i writer (slots_of tables.old)) result tables.old tables.new }
+    ensures { Answers (lock_calls.release_writer l i writer (slots_of tables.old)) result tables.old tables.new }
 {
     let kept = tables.promises.is_pending(writer.ready);
     let ready = renew(tables, writer.ready, kept);

@@ -1,5 +1,6 @@
 //! The calls that begin pipes, and those on the signals that abort them.
 ghost use Rattle.std.specs.Prelude.{◌≡◌, ◌+◌, ◌≤◌, ◌++◌, length, true};
+ghost use Rattle.ws_steps.specs.PipeCalls as pipe_calls;
 ghost use Rattle.ws_steps.specs.Calls as calls;
 ghost use Rattle.ws_steps.specs.Slots.{has_source, has_writable};
 ghost use Rattle.ws_calls.specs.Begin.{Answers, CanBegin, CanMake, CanPipe, Pipes};
@@ -17,7 +18,7 @@ use ws_value::{PipeId, Plain, PromiseId, SignalId, StreamId};
 
 /// The reason of the signal, where there is one that was triggered.
 fn reason_of(tables: &Tables, signal: Option<SignalId>) -> Option<Plain>
-    ensures { result ≡ calls.reason_of signal (slots_of tables.now) }
+    ensures { result ≡ pipe_calls.reason_of signal (slots_of tables.now) }
 {
     match signal {
         Some(a) => tables.signal_reason(a),
@@ -38,7 +39,7 @@ fn begin_pipe(
     ensures { tables.new ≡ record tables.old {
       caused = record tables.old.caused {
         effects = tables.old.caused.effects
-            ++ calls.pipe_begins me reader_closed writer_closed signal reason;
+            ++ pipe_calls.pipe_begins me reader_closed writer_closed signal reason;
       };
     } }
 {
@@ -73,7 +74,7 @@ pub(crate) fn pipe_to(
     signal: Option<SignalId>,
 ) -> Reply
     requires { CanPipe tables.old }
-    ensures { Pipes (calls.pipe_to source dest prevent signal (slots_of tables.old)) result tables.old tables.new }
+    ensures { Pipes (pipe_calls.pipe_to source dest prevent signal (slots_of tables.old)) result tables.old tables.new }
 {
     let me = PipeId(tables.pipes.len() as u128);
     let reason = reason_of(tables, signal);
@@ -109,7 +110,7 @@ fn pipe_unlocked(
     requires dest { has_writable dest (slots_of tables.old) ≡ true }
     requires ready { CanBegin tables.old }
     requires room { CanMake tables.old }
-    ensures { Answers (calls.pipe_unlocked source dest prevent signal (slots_of tables.old))
+    ensures { Answers (pipe_calls.pipe_unlocked source dest prevent signal (slots_of tables.old))
         result tables.old tables.new }
 {
     if tables.is_source_locked(source) {

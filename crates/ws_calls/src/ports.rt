@@ -1,6 +1,8 @@
 //! The transfer of streams, and the messages that come by their ports.
 ghost use Rattle.std.specs.Prelude.{◌<◌, vec_len};
 ghost use Rattle.ws_calls.specs.Begin.{AddsEnd, Answers, CanBegin, CanMake};
+ghost use Rattle.ws_steps.specs.MakingCalls as making_calls;
+ghost use Rattle.ws_steps.specs.PipeCalls as pipe_calls;
 ghost use Rattle.ws_steps.specs.Calls as calls;
 ghost use Rattle.ws_steps.specs.Slots.{has_source, has_writable};
 ghost use Rattle.ws_steps.specs.declared.calls.Call.TheVariants as call;
@@ -84,7 +86,7 @@ pub(crate) fn open(tables: &mut Tables, side: Side) -> Reply
 fn send_readable(tables: &mut Tables, source: StreamId) -> Reply
     requires ready { CanBegin tables.old }
     requires room { CanMake tables.old }
-    ensures { Answers (calls.make_stream (calls.send_readable source) (slots_of tables.old))
+    ensures { Answers (making_calls.make_stream (pipe_calls.send_readable source) (slots_of tables.old))
         result tables.old tables.new }
 {
     if tables.streams.len() >= MOST_STREAMS {
@@ -101,7 +103,7 @@ fn send_readable(tables: &mut Tables, source: StreamId) -> Reply
 fn send_writable(tables: &mut Tables, dest: StreamId) -> Reply
     requires ready { CanBegin tables.old }
     requires room { CanMake tables.old }
-    ensures { Answers (calls.make_stream (calls.send_writable dest) (slots_of tables.old))
+    ensures { Answers (making_calls.make_stream (pipe_calls.send_writable dest) (slots_of tables.old))
         result tables.old tables.new }
 {
     if tables.streams.len() >= MOST_STREAMS {

@@ -1,4 +1,5 @@
 //! The calls on readable streams and their readers: their checks in order, and then their operations.
+ghost use Rattle.ws_steps.specs.LockCalls as lock_calls;
 ghost use Rattle.ws_steps.specs.Calls as calls;
 ghost use Rattle.ws_calls.specs.Begin.{Answers, CanBegin};
 ghost use Rattle.ws_steps.specs.declared.calls.Call.TheVariants as call;
@@ -11,7 +12,7 @@ use ws_value::{LockId, Plain, StreamId};
 
 fn cancel_stream(tables: &mut Tables, i: StreamId, reason: Plain) -> Reply
     requires ready { CanBegin tables.old }
-    ensures { Answers (calls.cancel reason i (slots_of tables.old)) result tables.old tables.new }
+    ensures { Answers (lock_calls.cancel reason i (slots_of tables.old)) result tables.old tables.new }
 {
     let promise = tables.promises.fresh();
     tables.caused.push(Effect::Readable(i, ReadableOperation::Cancel(reason, promise)));

@@ -1,6 +1,7 @@
 //! Replies that many calls give.
 ghost use Rattle.std.specs.Prelude.{◌≡◌};
-ghost use Rattle.ws_steps.specs.Calls as calls;
+ghost use Rattle.ws_steps.specs.Begun as replying;
+ghost use Rattle.ws_steps.specs.ControllerCalls as controller_calls;
 ghost use Rattle.ws_tables.specs.View.{slots_of};
 ghost use Rattle.ws_calls.specs.Begin.{Answers, CanBegin};
 
@@ -16,7 +17,7 @@ pub(crate) const DATA_CLONE: Reply = Reply::Throws(Thrown::DataClone);
 
 /// What a call throws that an operation of a byte controller lets throw.
 pub(crate) fn thrown_by(fault: Fault) -> Reply
-    ensures { result ≡ calls.thrown_by fault }
+    ensures { result ≡ controller_calls.thrown_by fault }
 {
     match fault {
         Fault::RangeError => Reply::Throws(Thrown::RangeError),
@@ -27,7 +28,7 @@ pub(crate) fn thrown_by(fault: Fault) -> Reply
 /// Answers a promise that is rejected with a TypeError.
 pub(crate) fn rejected(tables: &mut Tables) -> Reply
     requires ready { CanBegin tables.old }
-    ensures { Answers (calls.rejected (slots_of tables.old)) result tables.old tables.new }
+    ensures { Answers (replying.rejected (slots_of tables.old)) result tables.old tables.new }
 {
     let promise = tables.promises.fresh();
     let reason = Plain::Fault(Fault::TypeError);

@@ -1,6 +1,7 @@
 //! The making of tees.
 ghost use Rattle.std.specs.Prelude.{◌≡◌};
 ghost use Rattle.ws_calls.specs.Begin.{Answers, CanBegin, CanMake};
+ghost use Rattle.ws_steps.specs.MakingCalls as making_calls;
 ghost use Rattle.ws_steps.specs.Calls as calls;
 ghost use Rattle.ws_steps.specs.declared.calls.Call.TheVariants as call;
 ghost use Rattle.ws_tables.specs.View.{slots_of};
@@ -20,7 +21,7 @@ use ws_value::{StreamId, TeeId};
 fn make_tee(tables: &mut Tables, source: StreamId) -> Reply
     requires ready { CanBegin tables.old }
     requires room { CanMake tables.old }
-    ensures { Answers (calls.make_two (calls.make_tee source) (slots_of tables.old)) result tables.old tables.new }
+    ensures { Answers (making_calls.make_two (making_calls.make_tee source) (slots_of tables.old)) result tables.old tables.new }
 {
     if tables.streams.len() + 1 >= MOST_STREAMS {
         return Reply::TooMany;

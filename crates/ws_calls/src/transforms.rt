@@ -1,5 +1,6 @@
 //! The making of transform streams, and the calls on their controllers that no others have.
 ghost use Rattle.std.specs.Prelude.{◌≡◌, ◌+◌, ◌≤◌, ◌++◌, [], ◌∷◌, length, None};
+ghost use Rattle.ws_steps.specs.MakingCalls as making_calls;
 ghost use Rattle.ws_steps.specs.Calls as calls;
 ghost use Rattle.ws_steps.specs.declared.calls.Call.TheVariants as call;
 ghost use Rattle.ws_steps.specs.declared.effects.Effect.TheVariants as effect;
@@ -25,7 +26,7 @@ fn start_transform(tables: &mut Tables, started: PromiseId, j: StreamId, start: 
     requires { 1 + length tables.old.caused.effects ≤ tables.old.caused.capacity }
     ensures { tables.new ≡ record tables.old {
       caused = record tables.old.caused {
-        effects = tables.old.caused.effects ++ calls.start_transform started j start ∷ [];
+        effects = tables.old.caused.effects ++ making_calls.start_transform started j start ∷ [];
       };
     } }
 {

@@ -1,6 +1,7 @@
 //! The calls on writable streams and their writers: their checks in order, and then their operations.
 ghost use Rattle.std.specs.Prelude.{◌≡◌, true};
 ghost use Rattle.ws_steps.specs.Slots.{has_writable};
+ghost use Rattle.ws_steps.specs.LockCalls as lock_calls;
 ghost use Rattle.ws_steps.specs.Calls as calls;
 ghost use Rattle.ws_calls.specs.Begin.{Answers, CanBegin};
 ghost use Rattle.ws_steps.specs.declared.calls.Call.TheVariants as call;
@@ -13,7 +14,7 @@ use ws_value::{LockId, Plain, StreamId, Value};
 
 fn close_stream(tables: &mut Tables, i: StreamId) -> Reply
     requires ready { CanBegin tables.old }
-    ensures { Answers (calls.close i (slots_of tables.old)) result tables.old tables.new }
+    ensures { Answers (lock_calls.close i (slots_of tables.old)) result tables.old tables.new }
 {
     let promise = tables.promises.fresh();
     tables
@@ -26,7 +27,7 @@ fn close_stream(tables: &mut Tables, i: StreamId) -> Reply
 fn abort_stream(tables: &mut Tables, i: StreamId, reason: Plain) -> Reply
     requires there { has_writable i (slots_of tables.old) ≡ true }
     requires ready { CanBegin tables.old }
-    ensures { Answers (calls.abort reason i (slots_of tables.old)) result tables.old tables.new }
+    ensures { Answers (lock_calls.abort reason i (slots_of tables.old)) result tables.old tables.new }
 {
     match tables.writable(i).answered_abort() {
         Some(promise) => Reply::Promise(promise),

@@ -7,7 +7,8 @@ use Rattle.ws_steps.specs.declared.calls.Call.TheVariants.{MakeWritable}
 use Rattle.ws_steps.specs.declared.calls.StartBy.TheVariants.{Now}
 use Rattle.ws_steps.specs.declared.readable.SizeBy.TheVariants.{Count}
 use Rattle.ws_steps.specs.declared.calls.Reply.TheVariants.{Promise}
-use Rattle.ws_steps.specs.Calls.{Begun, begin}
+use Rattle.ws_steps.specs.Begun.{Begun}
+use Rattle.ws_steps.specs.Calls.{begin}
 use Rattle.ws_steps.specs.Pipes as pipe
 use Rattle.ws_steps.specs.Promises.{next_id, fresh, rank_at}
 use Rattle.ws_steps.specs.Run.{Entry, Called, step, run, reply_to, after_call}

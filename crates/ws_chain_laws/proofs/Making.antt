@@ -9,8 +9,9 @@ use Rattle.ws_steps.specs.declared.effects.Owner.TheVariants.{HalfOf}
 use Rattle.ws_steps.specs.declared.readable.SizeBy.TheVariants.{Count}
 use Rattle.ws_steps.specs.declared.transform.Kind.TheVariants.{Host as HostKind}
 use Rattle.ws_steps.specs.declared.transform.TransformId.{TransformId}
-use Rattle.ws_steps.specs.Calls as calls
-use Rattle.ws_steps.specs.Calls.{Begun, begin}
+use Rattle.ws_steps.specs.MakingCalls as making_calls
+use Rattle.ws_steps.specs.Begun.{Begun}
+use Rattle.ws_steps.specs.Calls.{begin}
 use Rattle.ws_steps.specs.Jobs.{begin_job}
 use Rattle.ws_steps.specs.Promises.{next_id, fresh, settle, answer, react, follow, unfollow, use_gift, queue_micro, after_next_job, watch}
 use Rattle.ws_steps.specs.Readable as readable
@@ -126,7 +127,7 @@ module _ (origin : Origin) (m : ℕ) (s : Slots) (d : Made origin m s) (few : 2 
   c = MakeTransform HostKind 1 0 Now
 
   abbrev b : Begun
-  b = calls.make_transform HostKind 1 0 Now jw jr s
+  b = making_calls.make_transform HostKind 1 0 Now jw jr s
 
   abbrev z : Slots
   z = after_call c s

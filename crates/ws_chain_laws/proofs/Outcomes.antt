@@ -6,7 +6,8 @@ use Rattle.ws_value.specs.declared.ids.SignalId.{SignalId}
 use Rattle.ws_value.specs.declared.value.Outcome.TheVariants.{Fulfilled, Rejected}
 use Rattle.ws_value.specs.declared.value.Plain.{Plain}
 use Rattle.ws_steps.specs.declared.effects.Owner.TheVariants.{Host}
-use Rattle.ws_steps.specs.Calls.{begin, pipe_to}
+use Rattle.ws_steps.specs.PipeCalls.{pipe_to}
+use Rattle.ws_steps.specs.Calls.{begin}
 use Rattle.ws_steps.specs.Pipes as pipe
 use Rattle.ws_steps.specs.Promises.{next_id, fresh, outcome_at}
 use Rattle.ws_steps.specs.Run.{Entry, Called, Worked, Heard, run, after_call}

@@ -12,8 +12,10 @@ use Rattle.ws_steps.specs.declared.calls.StartBy.TheVariants.{Now}
 use Rattle.ws_steps.specs.declared.effects.Owner.{Owner}
 use Rattle.ws_steps.specs.declared.effects.Owner.TheVariants.{Host, HalfOf}
 use Rattle.ws_steps.specs.declared.readable.SizeBy.TheVariants.{Count}
-use Rattle.ws_steps.specs.Calls as calls
-use Rattle.ws_steps.specs.Calls.{Begun, begin}
+use Rattle.ws_steps.specs.MakingCalls as making_calls
+use Rattle.ws_steps.specs.PipeCalls as pipe_calls
+use Rattle.ws_steps.specs.Begun.{Begun}
+use Rattle.ws_steps.specs.Calls.{begin}
 use Rattle.ws_steps.specs.Histories.{is_same}
 use Rattle.ws_steps.specs.Pipes as pipe
 use Rattle.ws_steps.specs.Promises.{next_id, fresh}
@@ -67,7 +69,7 @@ module _ (origin : Origin) (n : ℕ) (s : Slots) (d : Made origin n s) (few : 2 
   c = MakeWritable 1 Count Now
 
   abbrev b : Begun
-  b = calls.make_writable 1 Count Now j s
+  b = making_calls.make_writable 1 Count Now j s
 
   abbrev z : Slots
   z = after_call c s
@@ -184,7 +186,7 @@ module _ (origin : Origin) (n c j : ℕ) (s : Slots) (r : Ready origin n c j s) 
   free = r.free j (omega arith) less
 
   abbrev begun : Begun
-  begun = calls.pipe_to (source_of j) (dest_of j) nothing_prevented signal s
+  begun = pipe_calls.pipe_to (source_of j) (dest_of j) nothing_prevented signal s
 
   pub is-begun : begin call s ≡ begun
   is-begun = begins.is_begun (source_of j) (dest_of j) nothing_prevented signal s free there
@@ -195,7 +197,7 @@ module _ (origin : Origin) (n c j : ℕ) (s : Slots) (r : Ready origin n c j s) 
   new-link : IsLink (source_of j) (dest_of j) (link_of j) to
   new-link = subst (λ (p : PipeId). IsLink (source_of j) (dest_of j) p to) number (link-begins (source_of j) (dest_of j) nothing_prevented signal s free there)
 
-  no-reason : (o : Option SignalId) → calls.reason_of o s ≡ None
+  no-reason : (o : Option SignalId) → pipe_calls.reason_of o s ≡ None
   no-reason None = refl
   no-reason (Some a) = by (slice_get s.signals a.0) refl
     where
@@ -203,13 +205,13 @@ module _ (origin : Origin) (n c j : ℕ) (s : Slots) (r : Ready origin n c j s) 
       by None e = rw e refl
       by (Some y) e = rw e (all-get Untriggered s.signals a.0 y r.young.signals e)
 
-  begins-mild : (p : PipeId) (a b : PromiseId) (o : Option SignalId) (reason : Option Plain) → reason ≡ None → Each Mild (calls.pipe_begins p a b o reason)
+  begins-mild : (p : PipeId) (a b : PromiseId) (o : Option SignalId) (reason : Option Plain) → reason ≡ None → Each Mild (pipe_calls.pipe_begins p a b o reason)
   begins-mild p a b None None e = (tt, (tt, (tt, tt)))
   begins-mild p a b (Some g) None e = (tt, (tt, (tt, (tt, tt))))
   begins-mild p a b o (Some x) e = cc
 
   pipe-young : Young c (suc j) to
-  pipe-young = called-young c (suc j) call s (rw is-begun young) (rw is-begun (tt, (tt, (tt, begins-mild _ _ _ signal (calls.reason_of signal s) (no-reason signal)))))
+  pipe-young = called-young c (suc j) call s (rw is-begun young) (rw is-begun (tt, (tt, (tt, begins-mild _ _ _ signal (pipe_calls.reason_of signal s) (no-reason signal)))))
     where
       young : Young c (suc j) begun.done.slots
       young =

@@ -5,7 +5,9 @@ use Rattle.ws_steps.specs.declared.calls.Call.TheVariants.{Tee, Settle, Enqueue,
 use Rattle.ws_steps.specs.declared.calls.Reply.{Reply}
 use Rattle.ws_steps.specs.declared.calls.Reply.TheVariants.{Promise}
 use Rattle.ws_steps.specs.declared.promises.Job.{Job}
-use Rattle.ws_steps.specs.Calls.{Begun, begin, named, open_end}
+use Rattle.ws_steps.specs.Begun.{Begun}
+use Rattle.ws_steps.specs.PipeCalls.{open_end}
+use Rattle.ws_steps.specs.Calls.{begin, named}
 use Rattle.ws_steps.specs.declared.port.Side.{Side}
 use Rattle.ws_steps.specs.declared.port.Side.TheVariants.{Readable as ReadableSide, Writable as WritableSide}
 use Rattle.ws_steps.specs.Jobs.{job_begun, begin_job}

@@ -31,7 +31,7 @@ use Rattle.ws_laws.proofs.Halves.{Halved}
 use Rattle.ws_laws.proofs.Lists.{Each, each-map}
 use Rattle.ws_laws.proofs.PipeDoes.{PipeCauses}
 use Rattle.ws_laws.proofs.PortDoes.{PortCauses, port-causes}
-use Rattle.ws_laws.proofs.Rows.{ReadableCauses, ChunkCauses, EndCauses, ErrorCauses, SignalCauses, row-causes}
+use Rattle.ws_laws.proofs.Causes.{ReadableCauses, ChunkCauses, EndCauses, ErrorCauses, SignalCauses, row-causes}
 use Rattle.ws_laws.proofs.Shapes.{WritableOf, transform_shape, stream_shapes, map-there, owner-told, stream_shape}
 use Rattle.ws_laws.proofs.Tables.{same_id}
 use Rattle.ws_laws.proofs.TeeDoes.{TeeCauses}

@@ -34,7 +34,7 @@ use Rattle.ws_steps.specs.Writable as writable
 use Rattle.ws_laws.proofs.Lists.{Each}
 use Rattle.ws_laws.proofs.PipeDoes.{PipeCauses}
 use Rattle.ws_laws.proofs.PortDoes.{PortCauses}
-use Rattle.ws_laws.proofs.Rows.{ReadableCauses, ChunkCauses, EndCauses, ErrorCauses, SignalCauses, row-causes}
+use Rattle.ws_laws.proofs.Causes.{ReadableCauses, ChunkCauses, EndCauses, ErrorCauses, SignalCauses, row-causes}
 use Rattle.ws_laws.proofs.Tables.{either}
 use Rattle.ws_laws.proofs.TeeDoes.{TeeCauses}
 use Rattle.ws_laws.proofs.TransformDoes.{TransformCauses}

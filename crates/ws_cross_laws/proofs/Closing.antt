@@ -27,7 +27,7 @@ use Rattle.ws_laws.proofs.Ended.{PortShape, port_shape, port_shapes, HasEnd, End
 use Rattle.ws_laws.proofs.Lists.{Each, each-append, each-map}
 use Rattle.ws_laws.proofs.PipeDoes.{PipeCauses}
 use Rattle.ws_laws.proofs.PortDoes.{PortCauses}
-use Rattle.ws_laws.proofs.Rows.{Causes, row-causes}
+use Rattle.ws_laws.proofs.Causes.{Causes, row-causes}
 use Rattle.ws_laws.proofs.Shapes.{map-there}
 use Rattle.ws_laws.proofs.Tables.{is_same-refl, eq_numbers}
 use Rattle.ws_laws.proofs.TeeDoes.{TeeCauses}

@@ -41,7 +41,7 @@ use Rattle.ws_steps.specs.Operations.{readable_operation}
 use Rattle.ws_steps.specs.Readable as readable
 use Rattle.ws_steps.specs.ReadableHistory.{effect_flow}
 use Rattle.ws_steps.specs.Slots.{as_readable}
-use Rattle.ws_laws.proofs.Rows.{IsNoTee, row-streams}
+use Rattle.ws_laws.proofs.Apart.{IsNoTee, row-streams}
 use Rattle.ws_steps.specs.declared.byte.ByteOperation.{ByteOperation}
 use Rattle.ws_steps.specs.ReadableHistory.{Flow, no_flow}
 use Rattle.ws_cross_laws.proofs.Pulls.{bytes-idle}

@@ -19,8 +19,9 @@ use Rattle.ws_steps.specs.declared.port.Side.{Side}
 use Rattle.ws_steps.specs.declared.port.Side.TheVariants.{Readable as ReadableSide, Writable as WritableSide}
 use Rattle.ws_steps.specs.declared.promises.Job.{Job}
 use Rattle.ws_steps.specs.declared.readable.ReadableOperation.TheVariants as reads
-use Rattle.ws_steps.specs.Calls.{Begun, begin}
-use Rattle.ws_steps.specs.Calls as calls
+use Rattle.ws_steps.specs.Begun.{Begun}
+use Rattle.ws_steps.specs.Calls.{begin}
+use Rattle.ws_steps.specs.Begun as replying
 use Rattle.ws_steps.specs.Cross as cross
 use Rattle.ws_steps.specs.Histories.{is_same}
 use Rattle.ws_steps.specs.Jobs.{job_effects}
@@ -42,7 +43,7 @@ use Rattle.ws_steps.specs.ReadableHistory.{Flow, no_flow}
 use Rattle.ws_laws.proofs.Truth.{false_true}
 use Rattle.ws_cross_laws.proofs.Posting.{is_same_port-refl}
 use Rattle.ws_cross_laws.proofs.Touching.{NoTouch}
-use Rattle.ws_steps.specs.Calls.{add_stream, add_port, end_of}
+use Rattle.ws_steps.specs.PipeCalls.{add_port, end_of}
 use Rattle.ws_steps.specs.Histories.{along, over}
 use Rattle.ws_steps.specs.PortHistory.{taken_by, run_taken, taken_in_step}
 use Rattle.ws_steps.specs.Promises.{after_next_job, watch}
@@ -375,7 +376,7 @@ module _ (c : PortId) (i : StreamId) where
           live = λ l. inl (settled h.taken h.entered x (readable_at i s) g l);
         }
 
-    comes-held : DeliverHeld (calls.does (OnPort d (ports.Deliver m) ∷ []) s)
+    comes-held : DeliverHeld (replying.does (OnPort d (ports.Deliver m) ∷ []) s)
     comes-held x at side stream = by (is_same_port c d) refl
       where
         by : (same : Bool) → same ≡ is_same_port c d → Enters c i (h.taken ++ taken_by c (Deliver d m) s) h.entered x (readable_at i s) (OnPort d (ports.Deliver m) ∷ [])
@@ -388,7 +389,7 @@ module _ (c : PortId) (i : StreamId) where
             let taken : taken_by c (Deliver d m) s ≡ (if x.live then m ∷ [] else []) = rw (← e, live) refl in
             rw (taken) (subst (λ (p : PortId). Enters c i (h.taken ++ (if x.live then m ∷ [] else [])) h.entered x (readable_at i s) (OnPort p (ports.Deliver m) ∷ [])) is_so (mine-comes x at (k.held x at side stream)))
 
-    refused-held : has_port d s ≡ false → DeliverHeld (calls.unsupported s)
+    refused-held : has_port d s ≡ false → DeliverHeld (replying.unsupported s)
     refused-held none x at side stream = by (is_same_port c d) refl
       where
         by : (same : Bool) → same ≡ is_same_port c d → Enters c i (h.taken ++ taken_by c (Deliver d m) s) h.entered x (readable_at i s) []
@@ -400,7 +401,7 @@ module _ (c : PortId) (i : StreamId) where
 
     deliver-held : DeliverHeld (begin (Deliver d m) s)
     unfolding begin
-    deliver-held = either DeliverHeld (has_port d s) (calls.does (OnPort d (ports.Deliver m) ∷ []) s) (calls.unsupported s) (λ e. comes-held) (λ n. refused-held n)
+    deliver-held = either DeliverHeld (has_port d s) (replying.does (OnPort d (ports.Deliver m) ∷ []) s) (replying.unsupported s) (λ e. comes-held) (λ n. refused-held n)
 
   called-held : (call : Call) (h : Past) (s : Slots) (ended : Ended s) (k : Held h s []) → CallHeld call h s ended k (begin call s)
   called-held (Deliver d m) h s ended k = deliver-held h s ended k d m

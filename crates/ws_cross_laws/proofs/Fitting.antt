@@ -35,7 +35,8 @@ use Rattle.ws_steps.specs.declared.writable.WritableOperation.{WritableOperation
 use Rattle.ws_steps.specs.declared.writable.WritableOperation.TheVariants as writes
 use Rattle.ws_steps.specs.declared.writable.WriteRecord.{WriteRecord}
 use Rattle.ws_steps.specs.declared.writable.WriteRecord.TheVariants.{Chunk, InFlight, CloseMark}
-use Rattle.ws_steps.specs.Calls.{Begun, begin}
+use Rattle.ws_steps.specs.Begun.{Begun}
+use Rattle.ws_steps.specs.Calls.{begin}
 use Rattle.ws_steps.specs.Cross as cross
 use Rattle.ws_steps.specs.Effects.{Out}
 use Rattle.ws_steps.specs.Jobs.{job_effects}
@@ -51,7 +52,7 @@ use Rattle.ws_laws.proofs.Lists.{Each, each-append, each-map}
 use Rattle.ws_laws.proofs.PipeDoes.{PipeCauses}
 use Rattle.ws_laws.proofs.PortDoes.{PortCauses}
 use Rattle.ws_laws.proofs.ReadableDoes.{readable-does}
-use Rattle.ws_laws.proofs.Rows.{ReadableCauses, ByteCauses, ChunkCauses, EndCauses, ErrorCauses, SignalCauses, of-causes, row-causes}
+use Rattle.ws_laws.proofs.Causes.{ReadableCauses, ByteCauses, ChunkCauses, EndCauses, ErrorCauses, SignalCauses, of-causes, row-causes}
 use Rattle.ws_laws.proofs.Shapes.{StreamShape, ReadableOf, BytesOf, WritableOf, stream_shape, stream_shapes, row-stream_shapes, map-there}
 use Rattle.ws_laws.proofs.Tables.{either, readable_acts, byte_acts, writable_acts, readable_there, byte_there, writable_there}
 use Rattle.ws_laws.proofs.TeeDoes.{TeeCauses}

@@ -30,7 +30,7 @@ use Rattle.ws_laws.proofs.Tables.{writable_acts}
 use Rattle.ws_steps.specs.Slots.{has_writable, put_writable, Slots, Done, nothing, found, on_port_at, clones_at}
 use Rattle.ws_steps.specs.Turns.{row}
 use Rattle.ws_laws.proofs.Lists.{Each, each-append}
-use Rattle.ws_laws.proofs.Rows.{row-ports}
+use Rattle.ws_laws.proofs.Apart.{row-ports}
 use Rattle.ws_laws.proofs.Tables.{either, eq_numbers}
 use Rattle.ws_cross_laws.proofs.Posting.{total, total-append, given, given_first, given-more, is_same_port-refl, port_acts, Does, leave-does, close-does, chunk-does}
 use Rattle.ws_cross_laws.proofs.Apart.{place-same, place-other, port-elsewhere}

@@ -37,8 +37,10 @@ use Rattle.ws_steps.specs.declared.promises.Step.{Step}
 use Rattle.ws_steps.specs.declared.promises.Step.TheVariants as steps
 use Rattle.ws_steps.specs.declared.pipes.PipeOperation.TheVariants as piping
 use Rattle.ws_steps.specs.declared.tee.TeeOperation.TheVariants as tees
-use Rattle.ws_steps.specs.Calls.{Begun, begin}
-use Rattle.ws_steps.specs.Calls as calls
+use Rattle.ws_steps.specs.Begun.{Begun}
+use Rattle.ws_steps.specs.Calls.{begin}
+use Rattle.ws_steps.specs.MakingCalls as making_calls
+use Rattle.ws_steps.specs.PipeCalls as pipe_calls
 use Rattle.ws_steps.specs.Jobs.{job_effects, resolved}
 use Rattle.ws_steps.specs.Jobs as jobs
 use Rattle.ws_laws.proofs.EachCall.{each_call}
@@ -159,22 +161,22 @@ abbrev BegunSo : Begun → Type 0
 BegunSo b = Begins b.done.caused
 
 piped-begins : (me : PipeId) (p q : PromiseId) (signal : Option SignalId) (source dest : StreamId) (closed : PromiseId) (w : Writer) (r : Option Plain)
-    → Begins (OnReadable source (reads.InitializeReader closed) ∷ OnWritable dest (writes.SetUpWriter w) ∷ OnReadable source reads.Disturb ∷ calls.pipe_begins me p q signal r)
+    → Begins (OnReadable source (reads.InitializeReader closed) ∷ OnWritable dest (writes.SetUpWriter w) ∷ OnReadable source reads.Disturb ∷ pipe_calls.pipe_begins me p q signal r)
 piped-begins me p q signal source dest closed w (Some r) = cancelling (refl, (tt, (refl, (tt, tt))))
 piped-begins me p q None source dest closed w None = reading (refl, (tt, (refl, (tt, (tt, (tt, tt))))))
 piped-begins me p q (Some a) source dest closed w None = reading (refl, (tt, (refl, (tt, (tt, (tt, (tt, tt)))))))
 
 sent-begins : (i : StreamId) (side : Side) (me : PipeId) (p q : PromiseId) (source dest : StreamId) (closed : PromiseId) (w : Writer)
-    → Begins (calls.start_end i side ∷ OnReadable source (reads.InitializeReader closed) ∷ OnWritable dest (writes.SetUpWriter w) ∷ OnReadable source reads.Disturb ∷ calls.pipe_begins me p q None None)
+    → Begins (pipe_calls.start_end i side ∷ OnReadable source (reads.InitializeReader closed) ∷ OnWritable dest (writes.SetUpWriter w) ∷ OnReadable source reads.Disturb ∷ pipe_calls.pipe_begins me p q None None)
 sent-begins i ReadableSide me p q source dest closed w = reading (tt, (refl, (tt, (refl, (tt, (tt, (tt, tt)))))))
 sent-begins i WritableSide me p q source dest closed w = reading (tt, (refl, (tt, (refl, (tt, (tt, (tt, tt)))))))
 
-opened-begins : (i : StreamId) (side : Side) → Begins (calls.start_end i side ∷ [])
+opened-begins : (i : StreamId) (side : Side) → Begins (pipe_calls.start_end i side ∷ [])
 opened-begins i ReadableSide = reading (tt, tt)
 opened-begins i WritableSide = reading (tt, tt)
 
 transform-begins : (a b d e : Effect) (p : PromiseId) (j : StreamId) (start : StartBy) → BeginsReading a → BeginsReading b → BeginsReading d → BeginsReading e
-    → Begins (a ∷ b ∷ d ∷ e ∷ calls.start_transform p j start ∷ [])
+    → Begins (a ∷ b ∷ d ∷ e ∷ making_calls.start_transform p j start ∷ [])
 transform-begins a b d e p j Now k l m n = reading (k, (l, (m, (n, (tt, tt)))))
 transform-begins a b d e p j Later k l m n = reading (k, (l, (m, (n, (tt, tt)))))
 

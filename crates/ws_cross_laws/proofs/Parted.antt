@@ -33,7 +33,7 @@ use Rattle.ws_laws.proofs.Ended.{PortShape, port_shape, port_shapes, HasEnd, End
 use Rattle.ws_laws.proofs.Lists.{Each, each-append, each-map}
 use Rattle.ws_laws.proofs.PipeDoes.{PipeCauses}
 use Rattle.ws_laws.proofs.PortDoes.{PortCauses}
-use Rattle.ws_laws.proofs.Rows.{row-causes}
+use Rattle.ws_laws.proofs.Causes.{row-causes}
 use Rattle.ws_laws.proofs.Shapes.{StreamShape, ReadableOf, WritableOf, stream_shape, stream_shapes, map-there}
 use Rattle.ws_laws.proofs.Tables.{same_id, is_same-refl, eq_numbers, readable_acts, readable_there, byte_there, writable_there, on_source-readable, on_readable-same}
 use Rattle.ws_laws.proofs.TeeDoes.{TeeCauses}

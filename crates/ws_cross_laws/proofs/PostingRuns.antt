@@ -19,8 +19,10 @@ use Rattle.ws_steps.specs.declared.transform.Taker.TheVariants.{ToPort}
 use Rattle.ws_steps.specs.declared.writable.WritableOperation.TheVariants as writes
 use Rattle.ws_steps.specs.declared.writable.WriteRecord.{WriteRecord}
 use Rattle.ws_steps.specs.declared.writable.WriteRecord.TheVariants.{Chunk, InFlight, CloseMark}
-use Rattle.ws_steps.specs.Calls.{Begun, begin}
-use Rattle.ws_steps.specs.Calls as calls
+use Rattle.ws_steps.specs.Begun.{Begun}
+use Rattle.ws_steps.specs.Calls.{begin}
+use Rattle.ws_steps.specs.Begun as replying
+use Rattle.ws_steps.specs.PipeCalls as pipe_calls
 use Rattle.ws_steps.specs.Cross as cross
 use Rattle.ws_steps.specs.Cross.{post, post_or_fail, data_clone}
 use Rattle.ws_steps.specs.Histories.{taken_event}
@@ -34,7 +36,7 @@ use Rattle.ws_steps.specs.Turns.{row}
 use Rattle.ws_steps.specs.Writable as writable
 use Rattle.ws_laws.proofs.EachCall.{each_call}
 use Rattle.ws_laws.proofs.Lists.{Each, each-map}
-use Rattle.ws_laws.proofs.Rows.{IsNoPort, row-ports}
+use Rattle.ws_laws.proofs.Apart.{IsNoPort, row-ports}
 use Rattle.ws_laws.proofs.Ended.{port_shape, port_shapes}
 use Rattle.ws_laws.proofs.Shapes.{stream_shapes, map-there}
 use Rattle.ws_laws.proofs.Tables.{either, eq_numbers, writable_acts}
@@ -238,7 +240,7 @@ IsNewPort x = (x.live ≡ true) × (x.side ≡ WritableSide → none_of x.backpr
 abbrev pub PortsNow : Slots → Slots → Type 0
 PortsNow s z = (z.ports ≡ s.ports) ⊎ ((x : cross.Slots) × ((z.ports ≡ s.ports ++ x ∷ []) × IsNewPort x))
 
-port-added : (side : Side) (i : StreamId) (s : Slots) → PortsNow s (calls.add_port i s side)
+port-added : (side : Side) (i : StreamId) (s : Slots) → PortsNow s (pipe_calls.add_port i s side)
 port-added ReadableSide i s = inr (_, (refl, (refl, λ e. cc)))
 port-added WritableSide i s = inr (_, (refl, (refl, λ e. refl)))
 
@@ -392,7 +394,7 @@ module _ (c : PortId) where
   abbrev After : Past → Slots → Call → Begun → Type 0
   After h s call b = Posting c (then_past h (said c s (Called call))) b.done.slots b.done.caused
 
-  deliver-by : (h : Past) (s : Slots) (d : PortId) (m : Message) (same : Bool) → same ≡ is_same_port c d → Posting c h s [] → After h s (DeliverCall d m) (calls.does (Port d (ports.Deliver m) ∷ []) s)
+  deliver-by : (h : Past) (s : Slots) (d : PortId) (m : Message) (same : Bool) → same ≡ is_same_port c d → Posting c h s [] → After h s (DeliverCall d m) (replying.does (Port d (ports.Deliver m) ∷ []) s)
   deliver-by h s d m false n k =
       rw (← n, append-nil h.taken, append-nil h.heard)
       (standing h (all_posted c h s) (slice_get s.ports c.0) (Port d (ports.Deliver m) ∷ []) (record { chunks = refl; asks = λ l. rw (← n) refl; due = rw (← n) refl }, tt) k)
@@ -413,7 +415,7 @@ module _ (c : PortId) where
   deliver-kept : (h : Past) (s : Slots) (d : PortId) (m : Message) → Posting c h s [] → After h s (DeliverCall d m) (begin (DeliverCall d m) s)
   unfolding begin
   deliver-kept h s d m k =
-      either (After h s (DeliverCall d m)) (has_port d s) (calls.does (Port d (ports.Deliver m) ∷ []) s) (calls.unsupported s)
+      either (After h s (DeliverCall d m)) (has_port d s) (replying.does (Port d (ports.Deliver m) ∷ []) s) (replying.unsupported s)
       (λ e. deliver-by h s d m (is_same_port c d) refl k)
       (λ n. rw (no_port-taken h s d m n (is_same_port c d) refl, append-nil h.taken, append-nil h.heard) k)
 

@@ -33,7 +33,8 @@ use Rattle.ws_laws.proofs.Ended.{PortShape, port_shapes, HasEnd, Ended}
 use Rattle.ws_laws.proofs.Lists.{Each}
 use Rattle.ws_laws.proofs.PipeDoes.{PipeCauses}
 use Rattle.ws_laws.proofs.PortDoes.{PortCauses}
-use Rattle.ws_laws.proofs.Rows.{ReadableCauses, ChunkCauses, EndCauses, ErrorCauses, SignalCauses, row-causes, row-streams}
+use Rattle.ws_laws.proofs.Apart.{row-streams}
+use Rattle.ws_laws.proofs.Causes.{ReadableCauses, ChunkCauses, EndCauses, ErrorCauses, SignalCauses, row-causes}
 use Rattle.ws_laws.proofs.Shapes.{ReadableOf, stream_shape, stream_shapes}
 use Rattle.ws_laws.proofs.Tables.{is_same-refl, same_id, readable_acts, on_readable-same, on_byte-other, on_writable-readable, on_source-readable, on_source-other}
 use Rattle.ws_laws.proofs.TeeDoes.{TeeCauses}

@@ -18,8 +18,10 @@ use Rattle.ws_steps.specs.declared.readable.ReadableOperation.{ReadableOperation
 use Rattle.ws_steps.specs.declared.readable.ReadableOperation.TheVariants as reads
 use Rattle.ws_steps.specs.declared.readable.ReadableState.{ReadableState}
 use Rattle.ws_steps.specs.declared.readable.ReadableState.TheVariants.{Readable, Closed, Errored}
-use Rattle.ws_steps.specs.Calls.{Begun, begin, end_of}
-use Rattle.ws_steps.specs.Calls as calls
+use Rattle.ws_steps.specs.Begun.{Begun}
+use Rattle.ws_steps.specs.PipeCalls.{end_of}
+use Rattle.ws_steps.specs.Calls.{begin}
+use Rattle.ws_steps.specs.Begun as replying
 use Rattle.ws_steps.specs.Cross as cross
 use Rattle.ws_steps.specs.Histories.{is_same, along, over}
 use Rattle.ws_steps.specs.Jobs.{job_effects}
@@ -35,7 +37,7 @@ use Rattle.ws_steps.specs.Turns.{Moment, row}
 use Rattle.ws_laws.proofs.Ended.{PortShape, port_shape, port_shapes, Ended, ended-stays, ended-empty, row-port_shapes}
 use Rattle.ws_laws.proofs.Halves.{Halved, halved-stays, halved-empty}
 use Rattle.ws_laws.proofs.Lists.{Each, each-append}
-use Rattle.ws_laws.proofs.Rows.{row-streams}
+use Rattle.ws_laws.proofs.Apart.{row-streams}
 use Rattle.ws_laws.proofs.Shapes.{ReadableOf, stream_shapes, map-there}
 use Rattle.ws_laws.proofs.Tables.{either, same_id, is_same-refl, readable_acts}
 use Rattle.ws_laws.proofs.Truth.{false_true, or_right}
@@ -341,7 +343,7 @@ module _ (c : PortId) (i : StreamId) where
     deliver-holds : DeliverHolds (begin (Deliver d m) s)
     unfolding begin
     deliver-holds =
-        either DeliverHolds (has_port d s) (calls.does (OnPort d (ports.Deliver m) ∷ []) s) (calls.unsupported s)
+        either DeliverHolds (has_port d s) (replying.does (OnPort d (ports.Deliver m) ∷ []) s) (replying.unsupported s)
         (λ e x at side stream. record { heads = (due-now x at, tt); states = taken-states h.taken _ h.cancelled (readable_at i s) (w.holds x at side stream).states })
         (λ n x at side stream. record { heads = tt; states = taken-states h.taken _ h.cancelled (readable_at i s) (w.holds x at side stream).states })
 

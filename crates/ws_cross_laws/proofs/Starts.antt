@@ -17,7 +17,10 @@ use Rattle.ws_steps.specs.declared.promises.Step.TheVariants.{ReadableStart, Rea
 use Rattle.ws_steps.specs.declared.readable.{ReadRequest.{ReadRequest}, ReadRequest.TheVariants.{Promise, Pipe as PipeRequest, Tee as TeeRequest}, ReadableOperation.{ReadableOperation}}
 use Rattle.ws_steps.specs.declared.readable.ReadableOperation.TheVariants.{StartSettled, PullSettled}
 use Rattle.ws_steps.specs.declared.transform.TransformId.{TransformId}
-use Rattle.ws_steps.specs.Calls.{Begun, begin, make_readable, make_bytes, make_writable, make_transform, start_transform, start_end, open_end}
+use Rattle.ws_steps.specs.Begun.{Begun}
+use Rattle.ws_steps.specs.MakingCalls.{make_readable, make_bytes, make_writable, make_transform, start_transform}
+use Rattle.ws_steps.specs.PipeCalls.{start_end, open_end}
+use Rattle.ws_steps.specs.Calls.{begin}
 use Rattle.ws_steps.specs.Histories.{is_same}
 use Rattle.ws_steps.specs.Jobs.{job_effects}
 use Rattle.ws_steps.specs.Operations.{readable_operation, byte_readable_operation, byte_operation}
@@ -34,7 +37,7 @@ use Rattle.ws_laws.proofs.Begin.{begin-makes}
 use Rattle.ws_laws.proofs.EachCall.{each_call}
 use Rattle.ws_laws.proofs.Lists.{Each, each-append, each-map}
 use Rattle.ws_laws.proofs.PipeDoes.{IsStepOf, PipeCauses}
-use Rattle.ws_laws.proofs.Rows.{Causes, ReadableCauses, ChunkCauses, EndCauses, ErrorCauses, SignalCauses, row-causes}
+use Rattle.ws_laws.proofs.Causes.{Causes, ReadableCauses, ChunkCauses, EndCauses, ErrorCauses, SignalCauses, row-causes}
 use Rattle.ws_laws.proofs.Shapes.{StreamShape, ReadableOf, BytesOf, stream_shape, stream_shapes, row-stream_shapes}
 use Rattle.ws_laws.proofs.Tables.{either, same_id, readable_acts, byte_acts}
 use Rattle.ws_laws.proofs.TeeDoes.{TeeCauses}

@@ -33,7 +33,8 @@ use Rattle.ws_steps.specs.declared.readable.ReadRequest.TheVariants.{Promise, Pi
 use Rattle.ws_steps.specs.declared.tee.TeeOperation.{TeeOperation}
 use Rattle.ws_steps.specs.declared.transform.TransformId.{TransformId}
 use Rattle.ws_steps.specs.declared.transform.TransformOperation.{TransformOperation}
-use Rattle.ws_steps.specs.Calls.{Begun, begin}
+use Rattle.ws_steps.specs.Begun.{Begun}
+use Rattle.ws_steps.specs.Calls.{begin}
 use Rattle.ws_steps.specs.Effects.{Out}
 use Rattle.ws_steps.specs.Operations.{writable_operation, pipe_operation, signal_operation, transform_operation, tee_operation}
 use Rattle.ws_steps.specs.Pipes as pipe
@@ -46,7 +47,8 @@ use Rattle.ws_steps.specs.Turns.{row, call_host}
 use Rattle.ws_laws.proofs.EachCall.{each_call}
 use Rattle.ws_laws.proofs.PipeDoes.{pipe-does}
 use Rattle.ws_laws.proofs.ReadableDoes.{OfReadable}
-use Rattle.ws_laws.proofs.Rows.{IsNoPort, source-out, byte-out}
+use Rattle.ws_laws.proofs.Rows.{source-out, byte-out}
+use Rattle.ws_laws.proofs.Apart.{IsNoPort}
 use Rattle.ws_laws.proofs.Tables.{either, writable_acts}
 use Rattle.ws_laws.proofs.TeeDoes.{tee-does}
 use Rattle.ws_laws.proofs.TransformDoes.{transform-does}

@@ -26,8 +26,10 @@ use Rattle.ws_steps.specs.declared.tee.TeeOperation.{TeeOperation}
 use Rattle.ws_steps.specs.declared.transform.TransformId.{TransformId}
 use Rattle.ws_steps.specs.declared.transform.TransformOperation.{TransformOperation}
 use Rattle.ws_steps.specs.Bytes as byte
-use Rattle.ws_steps.specs.Calls.{Begun, begin}
-use Rattle.ws_steps.specs.Calls as calls
+use Rattle.ws_steps.specs.Begun.{Begun}
+use Rattle.ws_steps.specs.Calls.{begin}
+use Rattle.ws_steps.specs.Begun as replying
+use Rattle.ws_steps.specs.ControllerCalls as controller_calls
 use Rattle.ws_steps.specs.Cross as cross
 use Rattle.ws_steps.specs.Histories.{is_same}
 use Rattle.ws_steps.specs.Jobs.{job_effects}
@@ -45,7 +47,7 @@ use Rattle.ws_laws.proofs.Halves.{Halved}
 use Rattle.ws_laws.proofs.Lists.{Each, each-append, each-map}
 use Rattle.ws_laws.proofs.PipeDoes.{PipeCauses}
 use Rattle.ws_laws.proofs.PortDoes.{PortCauses, port-causes}
-use Rattle.ws_laws.proofs.Rows.{Causes, row-causes}
+use Rattle.ws_laws.proofs.Causes.{Causes, row-causes}
 use Rattle.ws_laws.proofs.Shapes.{StreamShape, ReadableOf, stream_shapes, transform_shape, tee_shape, map-there}
 use Rattle.ws_laws.proofs.Tables.{either, same_id}
 use Rattle.ws_laws.proofs.TeeDoes.{TeeCauses, tee-causes}
@@ -289,46 +291,46 @@ module _ (c : PortId) (i : StreamId) where
     abbrev Begins : Begun → Type 0
     Begins b = Each (NoTouch c i) b.done.caused
 
-    enqueue-by : (j : StreamId) (v : Value) (owner : Owner) → has_readable j s ≡ true → (readable_at j s).owner ≡ owner → Begins (calls.enqueue_by v j s owner)
+    enqueue-by : (j : StreamId) (v : Value) (owner : Owner) → has_readable j s ≡ true → (readable_at j s).owner ≡ owner → Begins (controller_calls.enqueue_by v j s owner)
     enqueue-by j v Host there e = either Begins (can_close_or_enqueue (readable_at j s)) _ _ (λ can. (not-host j there e, tt)) (λ n. tt)
     enqueue-by j v (HalfOf t) there e = either Begins (can_close_or_enqueue (readable_at j s)) _ _ (λ can. (tt, tt)) (λ n. tt)
     enqueue-by j v (BranchOf t half) there e = tt
     enqueue-by j v (EndOf d) there e = tt
 
-    bytes-none : (j : StreamId) (v : Value) → Begins (calls.enqueue_bytes j s v)
+    bytes-none : (j : StreamId) (v : Value) → Begins (controller_calls.enqueue_bytes j s v)
     bytes-none j (PlainValue v) = tt
     bytes-none j (Bytes b) = either Begins (not (is_empty b) && byte.can_take (byte_at j s)) _ _ (λ can. (tt, tt)) (λ n. tt)
 
-    enqueue-none : (j : StreamId) (v : Value) → Begins (calls.enqueue_call j v s)
+    enqueue-none : (j : StreamId) (v : Value) → Begins (controller_calls.enqueue_call j v s)
     enqueue-none j v =
-        either Begins (has_byte j s) (calls.enqueue_bytes j s v) (calls.for_readable j (calls.enqueue v j) s) (λ h. bytes-none j v)
+        either Begins (has_byte j s) (controller_calls.enqueue_bytes j s v) (replying.for_readable j (controller_calls.enqueue v j) s) (λ h. bytes-none j v)
         (λ h. either Begins (has_readable j s) _ _ (λ k. enqueue-by j v (readable_at j s).owner k refl) (λ k. tt))
 
-    finish-by : (j : StreamId) (owner : Owner) → has_readable j s ≡ true → (readable_at j s).owner ≡ owner → Begins (calls.finish_by j s owner)
+    finish-by : (j : StreamId) (owner : Owner) → has_readable j s ≡ true → (readable_at j s).owner ≡ owner → Begins (controller_calls.finish_by j s owner)
     finish-by j Host there e = either Begins (can_close_or_enqueue (readable_at j s)) _ _ (λ can. (not-host j there e, tt)) (λ n. tt)
     finish-by j (HalfOf u) there e = tt
     finish-by j (BranchOf u h) there e = tt
     finish-by j (EndOf d) there e = tt
 
-    finish-none : (j : StreamId) → Begins (calls.finish_call j s)
+    finish-none : (j : StreamId) → Begins (controller_calls.finish_call j s)
     finish-none j =
-        either Begins (has_byte j s) (calls.finish_bytes j s) (calls.for_readable j (calls.finish j) s)
+        either Begins (has_byte j s) (controller_calls.finish_bytes j s) (replying.for_readable j (controller_calls.finish j) s)
         (λ h. either Begins (byte.can_take (byte_at j s)) _ _ (λ can. (not-bytes j h, tt)) (λ n. tt))
         (λ h. either Begins (has_readable j s) _ _ (λ k. finish-by j (readable_at j s).owner k refl) (λ k. tt))
 
-    fail-by : (j : StreamId) (reason : Plain) (owner : Owner) → has_readable j s ≡ true → (readable_at j s).owner ≡ owner → Begins (calls.fail_readable_by reason j s owner)
+    fail-by : (j : StreamId) (reason : Plain) (owner : Owner) → has_readable j s ≡ true → (readable_at j s).owner ≡ owner → Begins (controller_calls.fail_readable_by reason j s owner)
     fail-by j reason Host there e = (not-host j there e, tt)
     fail-by j reason (HalfOf u) there e = (tt, tt)
     fail-by j reason (BranchOf u h) there e = tt
     fail-by j reason (EndOf d) there e = tt
 
-    fail-writable : (j : StreamId) (reason : Plain) (owner : Owner) → Begins (calls.fail_writable_by reason j s owner)
+    fail-writable : (j : StreamId) (reason : Plain) (owner : Owner) → Begins (controller_calls.fail_writable_by reason j s owner)
     fail-writable j reason Host = (tt, tt)
     fail-writable j reason (HalfOf u) = tt
     fail-writable j reason (BranchOf u h) = tt
     fail-writable j reason (EndOf d) = tt
 
-    fail-none : (j : StreamId) (reason : Plain) → Begins (calls.fail reason j s)
+    fail-none : (j : StreamId) (reason : Plain) → Begins (controller_calls.fail reason j s)
     fail-none j reason =
         either Begins (has_readable j s) _ _ (λ k. fail-by j reason (readable_at j s).owner k refl)
         (λ k. either Begins (has_byte j s) _ _ (λ h. (not-bytes j h, tt))

@@ -12,7 +12,8 @@ use Rattle.ws_steps.specs.declared.pipes.{PipeOperation.TheVariants.{ActionSettl
 use Rattle.ws_steps.specs.declared.readable.{ReadRequest.TheVariants.{Promise, Pipe as PipeRequest, Tee as TeeRequest}, ReadableOperation.{ReadableOperation}}
 use Rattle.ws_steps.specs.declared.transform.TransformId.{TransformId}
 use Rattle.ws_steps.specs.declared.writable.{WritableOperation.{WritableOperation}, WritableOperation.TheVariants.{ClosePropagating}}
-use Rattle.ws_steps.specs.Calls.{Begun, begin}
+use Rattle.ws_steps.specs.Begun.{Begun}
+use Rattle.ws_steps.specs.Calls.{begin}
 use Rattle.ws_steps.specs.Histories.{is_same}
 use Rattle.ws_steps.specs.Operations.{writable_operation}
 use Rattle.ws_steps.specs.Pipes as pipe
@@ -23,7 +24,8 @@ use Rattle.ws_steps.specs.Writable as writable
 use Rattle.ws_steps.specs.WritableHistory.{Writes}
 use Rattle.ws_laws.proofs.EachCall.{each_call}
 use Rattle.ws_laws.proofs.Lists.{Each, each-append}
-use Rattle.ws_laws.proofs.Rows.{Causes, SignalCauses, row-causes, row-streams}
+use Rattle.ws_laws.proofs.Apart.{row-streams}
+use Rattle.ws_laws.proofs.Causes.{Causes, SignalCauses, row-causes}
 use Rattle.ws_laws.proofs.Tables.{same_id, writable_acts, on_writable-same, on_writable-other}
 use Rattle.ws_laws.proofs.TransformDoes.{TransformCauses}
 use Rattle.ws_laws.proofs.TeeDoes.{TeeCauses}

@@ -18,7 +18,7 @@ use Rattle.ws_steps.proofs.PromiseLaws.{slice_get-set_other}
 use Rattle.ws_laws.proofs.Begin.{begin-makes}
 use Rattle.ws_laws.proofs.Lists.{Each}
 use Rattle.ws_laws.proofs.Outcomes.{Keeps, keeps-same, keeps-then, keeps-fresh}
-use Rattle.ws_laws.proofs.Rows.{IsNoPipe, row-pipes}
+use Rattle.ws_laws.proofs.Apart.{IsNoPipe, row-pipes}
 use Rattle.ws_laws.proofs.Straight.{straight_before}
 use Rattle.ws_laws.proofs.Tables.{eq_numbers, unequal_numbers}
 use Rattle.ws_laws.proofs.Truth.{false_true}

@@ -18,7 +18,8 @@ use Rattle.ws_steps.proofs.PromiseLaws.{slice_get-set_other}
 use Rattle.ws_laws.proofs.Begin.{begin-makes}
 use Rattle.ws_laws.proofs.PipeDoes.{pipe-does}
 use Rattle.ws_laws.proofs.Outcomes.{Keeps, keeps-entries, keeps-same, keeps-fresh, keeps-next, keeps-watch}
-use Rattle.ws_laws.proofs.Rows.{row-changes, row-pipes}
+use Rattle.ws_laws.proofs.Rows.{row-changes}
+use Rattle.ws_laws.proofs.Apart.{row-pipes}
 use Rattle.ws_laws.proofs.Stays.{keeps-changes}
 use Rattle.ws_laws.proofs.Straight.{straight_before, settled_straight}
 use Rattle.ws_laws.proofs.Tables.{eq_numbers, unequal_numbers}

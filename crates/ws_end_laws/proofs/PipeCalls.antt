@@ -6,8 +6,10 @@ use Rattle.ws_value.specs.declared.value.{Outcome.TheVariants.{Rejected}, Plain.
 use Rattle.ws_steps.specs.declared.calls.{Call.{Call}, Call.TheVariants.{Pipe as PipeCall}, Reply.{Reply}, Reply.TheVariants.{Promise as Named, Throws}, Thrown.TheVariants.{Unsupported}}
 use Rattle.ws_steps.specs.declared.effects.{Effect.{Effect}, Effect.TheVariants.{Pipe as OnPipe, Settle}}
 use Rattle.ws_steps.specs.declared.pipes.{Prevent.{Prevent}, PipeOperation.{PipeOperation}}
-use Rattle.ws_steps.specs.Calls as calls
-use Rattle.ws_steps.specs.Calls.{Begun, begin, named}
+use Rattle.ws_steps.specs.Begun as replying
+use Rattle.ws_steps.specs.PipeCalls as pipe_calls
+use Rattle.ws_steps.specs.Begun.{Begun}
+use Rattle.ws_steps.specs.Calls.{begin, named}
 use Rattle.ws_steps.specs.Effects.{type_error}
 use Rattle.ws_steps.specs.Operations.{pipe_operation}
 use Rattle.ws_steps.specs.Pipes as pipe
@@ -19,7 +21,7 @@ use Rattle.ws_steps.specs.Turns.{row, performed}
 use Rattle.ws_steps.proofs.PromiseLaws.{settle-open, entry_at-fresh_new, entry_at-with_entry_same, length-fresh}
 use Rattle.ws_room_laws.proofs.Turns.{performed_next, performed_none}
 use Rattle.ws_laws.proofs.Outcomes.{keeps-watch}
-use Rattle.ws_laws.proofs.Rows.{row-pipes}
+use Rattle.ws_laws.proofs.Apart.{row-pipes}
 use Rattle.ws_laws.proofs.Truth.{nor_left, nor_right}
 use Rattle.ws_laws.proofs.Walker.{performed-goes, untold}
 use Rattle.ws_pipe_laws.proofs.Kept.{each_pipe_stays}
@@ -73,14 +75,14 @@ new_rejected e t =
     ∙ ap (λ (x : _). option_map (λ (e : promises.Entry). e.outcome) x) (entry_at-with_entry_same (fresh t) (next_id t) (Some (ended (Rejected e))) (omega arith))
 
 -- where one is locked
-module _ (c : Call) (s : Slots) (e : begin c s ≡ calls.rejected s) where
+module _ (c : Call) (s : Slots) (e : begin c s ≡ replying.rejected s) where
   abbrev d : PromiseId
   d = next_id s.promises
 
   abbrev y : Slots
   y = with_promises (settle d (Err type_error) (fresh s.promises)) s
 
-  ends-so : performed (calls.rejected s).done ≡ y
+  ends-so : performed (replying.rejected s).done ≡ y
   ends-so = one_turn (Settle d (Err type_error)) (with_promises (fresh s.promises) s) y (settle_row d (Err type_error) (with_promises (fresh s.promises) s))
 
   after-so : after_call c s ≡ older (with_promises (watch d y.promises) y)
@@ -99,42 +101,42 @@ module _ (from to : StreamId) (not_to : Prevent) (by : Option SignalId) (s : Slo
 
   -- what the call begins with, by its checks
 
-  signal_there : (o : Option SignalId) → has_signal_where o s ≡ true → calls.for_signal_where o (calls.pipe_unlocked from to not_to by) s ≡ calls.pipe_unlocked from to not_to by s
+  signal_there : (o : Option SignalId) → has_signal_where o s ≡ true → pipe_calls.for_signal_where o (pipe_calls.pipe_unlocked from to not_to by) s ≡ pipe_calls.pipe_unlocked from to not_to by s
   signal_there None e = refl
   signal_there (Some a) e = rw e refl
 
-  signal_none : (o : Option SignalId) → has_signal_where o s ≡ false → calls.for_signal_where o (calls.pipe_unlocked from to not_to by) s ≡ calls.unsupported s
+  signal_none : (o : Option SignalId) → has_signal_where o s ≡ false → pipe_calls.for_signal_where o (pipe_calls.pipe_unlocked from to not_to by) s ≡ replying.unsupported s
   signal_none None e = cc
   signal_none (Some a) e = rw e refl
 
-  begins : has_source from s ≡ true → has_writable to s ≡ true → has_signal_where by s ≡ true → begin call s ≡ calls.pipe_unlocked from to not_to by s
+  begins : has_source from s ≡ true → has_writable to s ≡ true → has_signal_where by s ≡ true → begin call s ≡ pipe_calls.pipe_unlocked from to not_to by s
   unfolding begin
   begins r w g = rw (r, w) (signal_there by g)
 
-  free_begins : is_some (source_at from s).reader ≡ false → is_some (writable_at to s).writer ≡ false → calls.pipe_unlocked from to not_to by s ≡ calls.pipe_to from to not_to by s
+  free_begins : is_some (source_at from s).reader ≡ false → is_some (writable_at to s).writer ≡ false → pipe_calls.pipe_unlocked from to not_to by s ≡ pipe_calls.pipe_to from to not_to by s
   free_begins r w = rw (r, w) refl
 
-  locked_begins : (r w : Bool) → r ≡ is_some (source_at from s).reader → w ≡ is_some (writable_at to s).writer → r || w ≡ true → calls.pipe_unlocked from to not_to by s ≡ calls.rejected s
+  locked_begins : (r w : Bool) → r ≡ is_some (source_at from s).reader → w ≡ is_some (writable_at to s).writer → r || w ≡ true → pipe_calls.pipe_unlocked from to not_to by s ≡ replying.rejected s
   locked_begins true w e f k = rw (← e) refl
   locked_begins false true e f k = rw (← e, ← f) refl
   locked_begins false false e f k = cc
 
-  no_source : has_source from s ≡ false → begin call s ≡ calls.unsupported s
+  no_source : has_source from s ≡ false → begin call s ≡ replying.unsupported s
   unfolding begin
   no_source r = rw r refl
 
-  no_dest : (r : Bool) → r ≡ has_source from s → has_writable to s ≡ false → begin call s ≡ calls.unsupported s
+  no_dest : (r : Bool) → r ≡ has_source from s → has_writable to s ≡ false → begin call s ≡ replying.unsupported s
   unfolding begin
   no_dest true r w = rw (← r, w) refl
   no_dest false r w = rw (← r) refl
 
-  no_signal : (r w : Bool) → r ≡ has_source from s → w ≡ has_writable to s → has_signal_where by s ≡ false → begin call s ≡ calls.unsupported s
+  no_signal : (r w : Bool) → r ≡ has_source from s → w ≡ has_writable to s → has_signal_where by s ≡ false → begin call s ≡ replying.unsupported s
   unfolding begin
   no_signal true true r w g = rw (← r, ← w) (signal_none by g)
   no_signal true false r w g = rw (← r, ← w) refl
   no_signal false w r f g = rw (← r) refl
 
-  throws : begin call s ≡ calls.unsupported s → reply_to call s ≡ Throws Unsupported
+  throws : begin call s ≡ replying.unsupported s → reply_to call s ≡ Throws Unsupported
   throws e = ap (λ (b : Begun). b.reply) e
 
   -- the new pipe
@@ -142,16 +144,16 @@ module _ (from to : StreamId) (not_to : Prevent) (by : Option SignalId) (s : Slo
   abbrev new : pipe.Slots
   new = pipe.set_up from to not_to by (next_id (fresh (fresh (fresh s.promises))))
 
-  goes-on-so : (me : PipeId) (a b : PromiseId) (o : Option SignalId) (r : Option Plain) → calls.pipe_begins me a b o r ≡ goes_on_by me a b o r
+  goes-on-so : (me : PipeId) (a b : PromiseId) (o : Option SignalId) (r : Option Plain) → pipe_calls.pipe_begins me a b o r ≡ goes_on_by me a b o r
   goes-on-so me a b o (Some r) = refl
   goes-on-so me a b None None = refl
   goes-on-so me a b (Some g) None = refl
 
-  reason-so : (o : Option SignalId) → calls.reason_of o s ≡ reason_of o s
+  reason-so : (o : Option SignalId) → pipe_calls.reason_of o s ≡ reason_of o s
   reason-so None = refl
   reason-so (Some a) = refl
 
-  made-so : begin call s ≡ calls.pipe_to from to not_to by s → MakesItsPipe from to not_to by s
+  made-so : begin call s ≡ pipe_calls.pipe_to from to not_to by s → MakesItsPipe from to not_to by s
   made-so e =
       let me : PipeId = record { 0 = length s.pipes } in
       let t : Table = s.promises in
@@ -186,7 +188,7 @@ module _ (from to : StreamId) (not_to : Prevent) (by : Option SignalId) (s : Slo
             m ∙ (n ∙ (k ∙ length-append s.pipes new));
       }
     where
-      effects-so : (calls.pipe_to from to not_to by s).done.caused ≡ first_effects from to by s
+      effects-so : (pipe_calls.pipe_to from to not_to by s).done.caused ≡ first_effects from to by s
       effects-so =
           let me : PipeId = record { 0 = length s.pipes } in
           let a : PromiseId = next_id s.promises in

@@ -13,7 +13,7 @@ use Rattle.ws_steps.specs.Turns.{row}
 use Rattle.ws_steps.specs.Writable as writable
 use Rattle.ws_steps.specs.WritableHistory.{Writes}
 use Rattle.ws_laws.proofs.Begin.{begin-makes}
-use Rattle.ws_laws.proofs.Rows.{row-streams}
+use Rattle.ws_laws.proofs.Apart.{row-streams}
 use Rattle.ws_laws.proofs.Tables.{same_id, writable_acts, on_writable-same, on_writable-other}
 use Rattle.ws_writable_laws.proofs.Agenda.{Kept}
 use Rattle.ws_writable_laws.proofs.Expects.{write-expects, start-expects, write_settled-expects, close_settled-expects, abort_settled-expects}

@@ -19,12 +19,13 @@ use Rattle.ws_steps.specs.declared.{readable.ReadRequest.{ReadRequest}, readable
 use Rattle.ws_steps.specs.Slots.{Slots, owner_at}
 use Rattle.ws_steps.specs.Turns.{row, pull_algorithm, cancel_algorithm, write_algorithm, close_algorithm, abort_algorithm, start_algorithm}
 use Rattle.ws_steps.specs.Jobs.{job_effects}
-use Rattle.ws_steps.specs.Calls.{Begun, begin}
+use Rattle.ws_steps.specs.Begun.{Begun}
+use Rattle.ws_steps.specs.Calls.{begin}
 use Rattle.ws_steps.specs.Pipes as pipe
 use Rattle.ws_laws.proofs.EachCall.{each_call}
 use Rattle.ws_laws.proofs.Lists.{Each, each-append, each-map}
 use Rattle.ws_laws.proofs.PipeDoes.{IsStepOf, PipeCauses}
-use Rattle.ws_laws.proofs.Rows.{Causes, ChunkCauses, EndCauses, ErrorCauses, SignalCauses, row-causes}
+use Rattle.ws_laws.proofs.Causes.{Causes, ChunkCauses, EndCauses, ErrorCauses, SignalCauses, row-causes}
 use Rattle.ws_pipe_laws.specs.PipeMoves.{is_idle, are_idle, end_effects, signal_forgets, result_by}
 use Rattle.ws_host_laws.proofs.Reactions.{JobFits}
 use Rattle.ws_laws.proofs.TransformDoes.{TransformCauses}

@@ -11,7 +11,8 @@ use Rattle.ws_steps.specs.Promises.{Entry as PromiseEntry, Table, next_id, entry
 use Rattle.ws_steps.specs.Slots.{Slots, empty, with_promises}
 use Rattle.ws_steps.specs.Turns.{row, call_host}
 use Rattle.ws_steps.specs.Jobs.{job_effects}
-use Rattle.ws_steps.specs.Calls.{Begun, begin}
+use Rattle.ws_steps.specs.Begun.{Begun}
+use Rattle.ws_steps.specs.Calls.{begin}
 use Rattle.ws_steps.specs.Run.{Entry, Called, Worked, Heard, run, step, after_event, later_events}
 use Rattle.ws_steps.specs.Histories.{taken_event, taken_in_step, run_events}
 use Rattle.ws_laws.proofs.EachCall.{each_call}

@@ -18,7 +18,7 @@ use Rattle.ws_steps.specs.Slots.{Slots, Stream, ReadableStream, ByteStream, Writ
 use Rattle.ws_steps.specs.Turns.{row, on_source}
 use Rattle.ws_steps.specs.Writable.{Acts, is_closed, reject_close_and_closed, finish_erroring, start_erroring, deal_with_rejection, controller_error_if_needed, update_backpressure, refresh_backpressure, process_write, process_close, process_first, advance_queue, hand_on, write_settled, close_settled, finish_in_flight_close_with_error, start_settled, abort_settled, controller_write, writer_write, controller_close, add_close_request, has_ended, is_closing, fulfil_ready, stream_close, close_with_error_propagation, signalled, stream_abort, abort_if_writable, set_up_writer, writer_release}
 use Rattle.ws_steps.specs.Histories.{is_same}
-use Rattle.ws_laws.proofs.Rows.{row-streams}
+use Rattle.ws_laws.proofs.Apart.{row-streams}
 use Rattle.ws_laws.proofs.Tables.{either, is_same-refl, same_id, writable_acts, writable_there, on_readable-same, on_readable-other, on_byte-look, on_writable-same, on_writable-other}
 
 -- whether a writable stream is closed that stands there

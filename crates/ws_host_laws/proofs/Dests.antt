@@ -18,7 +18,7 @@ use Rattle.ws_steps.specs.Writable.{Acts, is_closed, is_closing, has_ended}
 use Rattle.ws_steps.specs.Histories.{is_same}
 use Rattle.ws_steps.specs.Laws.{is_rejected}
 use Rattle.ws_steps.specs.WritableHistory.{Writes}
-use Rattle.ws_laws.proofs.Rows.{row-streams}
+use Rattle.ws_laws.proofs.Apart.{row-streams}
 use Rattle.ws_laws.proofs.Tables.{is_same-refl, same_id, writable_acts, writable_there, no_writable_there, on_writable-same, on_writable-other}
 use Rattle.ws_laws.proofs.WritableDoes.{IsHandOn}
 use Rattle.ws_writable_laws.proofs.Agenda.{Kept, found, Elsewhere, row-leaves, same_or}

@@ -8,7 +8,8 @@ use Rattle.ws_steps.specs.declared.{calls.Answer.TheVariants.{Ok as AnswerOk, Fa
 use Rattle.ws_steps.specs.declared.effects.Effect.{Effect}
 use Rattle.ws_steps.specs.Promises.{Entry as PromiseEntry, Table, entry_at, outcome_at, is_pending, is_open_entry}
 use Rattle.ws_steps.specs.Slots.{Slots, empty, pending_host, host_at}
-use Rattle.ws_steps.specs.Calls.{settle_host, begin}
+use Rattle.ws_steps.specs.ControllerCalls.{settle_host}
+use Rattle.ws_steps.specs.Calls.{begin}
 use Rattle.ws_steps.specs.Turns.{Moment}
 use Rattle.ws_steps.specs.Run.{Entry, Called, Worked, Heard, run, step, reply_to, moments_in}
 use Rattle.ws_steps.specs.Histories.{along, in_step, over}

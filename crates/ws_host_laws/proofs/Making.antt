@@ -7,7 +7,9 @@ use Rattle.ws_steps.specs.declared.calls.Call.{Call}
 use Rattle.ws_steps.specs.declared.pipes.{Phase.TheVariants.{Flowing}, Prevent.{Prevent}}
 use Rattle.ws_steps.specs.declared.port.Side.{Side}
 use Rattle.ws_steps.specs.declared.port.Side.TheVariants.{Readable as ReadableSide, Writable as WritableSide}
-use Rattle.ws_steps.specs.Calls.{Begun, begin, pipe_begins, pipe_to, add_port, end_of, no_prevent, sent_by, send_readable, send_writable, reason_of}
+use Rattle.ws_steps.specs.Begun.{Begun}
+use Rattle.ws_steps.specs.PipeCalls.{pipe_begins, pipe_to, add_port, end_of, no_prevent, sent_by, send_readable, send_writable, reason_of}
+use Rattle.ws_steps.specs.Calls.{begin}
 use Rattle.ws_steps.specs.Pipes as pipe
 use Rattle.ws_steps.specs.Slots.{Slots, Stream, has_writable, is_writable_stream}
 use Rattle.ws_laws.proofs.EachCall.{each_call}

@@ -13,7 +13,7 @@ use Rattle.ws_steps.specs.Promises.{next_job}
 use Rattle.ws_steps.specs.Run.{Entry, Called, Worked, Heard, run, step}
 use Rattle.ws_steps.specs.Slots.{Slots, Done, empty, on_pipe_at}
 use Rattle.ws_steps.specs.Turns.{row, performed}
-use Rattle.ws_laws.proofs.Rows.{row-pipes}
+use Rattle.ws_laws.proofs.Apart.{row-pipes}
 use Rattle.ws_laws.proofs.Walker.{performed-goes, untold}
 use Rattle.ws_host_laws.proofs.PipedRuns.{run-last}
 use Rattle.ws_host_laws.proofs.Making.{New, Adds, call-adds}

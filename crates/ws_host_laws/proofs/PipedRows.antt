@@ -16,7 +16,8 @@ use Rattle.ws_steps.specs.Turns.{row}
 use Rattle.ws_steps.specs.Histories.{is_same}
 use Rattle.ws_laws.proofs.Lists.{Each, each-append}
 use Rattle.ws_laws.proofs.Outcomes.{Keeps, keeps-same}
-use Rattle.ws_laws.proofs.Rows.{row-changes, row-pipes}
+use Rattle.ws_laws.proofs.Rows.{row-changes}
+use Rattle.ws_laws.proofs.Apart.{row-pipes}
 use Rattle.ws_laws.proofs.Stays.{keeps-changes}
 use Rattle.ws_laws.proofs.Tables.{unequal_numbers, is_same-refl}
 use Rattle.ws_steps.proofs.PromiseLaws.{slice_get-set_other}

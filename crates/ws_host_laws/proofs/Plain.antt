@@ -33,7 +33,8 @@ use Rattle.ws_laws.proofs.PipeDoes.{pipe-does}
 use Rattle.ws_laws.proofs.TransformDoes.{transform-does}
 use Rattle.ws_laws.proofs.Tables.{either, writable_acts}
 use Rattle.ws_steps.specs.declared.effects.Effect.TheVariants.{Byte, CloseStepsWith}
-use Rattle.ws_laws.proofs.Rows.{source-out, byte-out, source-leaves, byte-leaves}
+use Rattle.ws_laws.proofs.Rows.{source-out, byte-out}
+use Rattle.ws_laws.proofs.Apart.{source-leaves, byte-leaves}
 use Rattle.ws_laws.proofs.ReadableDoes.{OfReadable}
 use Rattle.ws_value.specs.declared.value.Value.TheVariants.{Bytes}
 use Rattle.ws_value.specs.declared.ids.PortId.{PortId}

@@ -14,7 +14,9 @@ use Rattle.ws_steps.specs.Promises.{Table, next_id, fresh, tell, settle, use_gif
 use Rattle.ws_steps.specs.Slots.{Slots, empty, Done, pending_host, host_at, with_promises}
 use Rattle.ws_steps.specs.Turns.{row, call_host}
 use Rattle.ws_steps.specs.Jobs.{job_effects}
-use Rattle.ws_steps.specs.Calls.{Begun, begin, settle_host, outcome_of}
+use Rattle.ws_steps.specs.Begun.{Begun}
+use Rattle.ws_steps.specs.ControllerCalls.{settle_host, outcome_of}
+use Rattle.ws_steps.specs.Calls.{begin}
 use Rattle.ws_steps.specs.Run.{Entry, Called, step, older, after_event}
 use Rattle.ws_laws.proofs.Begin.{begin-makes}
 use Rattle.ws_laws.proofs.Tables.{eq_numbers, unequal_numbers}

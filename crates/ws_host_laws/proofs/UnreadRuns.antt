@@ -14,7 +14,7 @@ use Rattle.ws_steps.specs.Slots.{Slots, Stream, empty, as_writable, as_pipe, end
 use Rattle.ws_steps.specs.Turns.{row, performed}
 use Rattle.ws_steps.specs.WritableHistory.{Writes, writes_then, effect_writes, run_writes}
 use Rattle.ws_steps.proofs.PromiseLaws.{slice_get-set_other}
-use Rattle.ws_laws.proofs.Rows.{row-pipes}
+use Rattle.ws_laws.proofs.Apart.{row-pipes}
 use Rattle.ws_laws.proofs.Tables.{eq_numbers, unequal_numbers}
 use Rattle.ws_laws.proofs.Walker.{GoesUntold, RestsUntold, performed-goes, run-goes_untold}
 use Rattle.ws_writable_laws.proofs.Agenda.{Kept}

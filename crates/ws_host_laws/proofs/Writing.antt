@@ -21,7 +21,7 @@ use Rattle.ws_steps.specs.Writable as writable
 use Rattle.ws_steps.specs.Writable.{is_closed, is_closing, is_errored, is_erroring, write_refusal}
 use Rattle.ws_steps.specs.Histories.{along, in_step}
 use Rattle.ws_steps.specs.WritableHistory.{written_unless, promised_by, effect_promised}
-use Rattle.ws_laws.proofs.Rows.{row-streams}
+use Rattle.ws_laws.proofs.Apart.{row-streams}
 use Rattle.ws_laws.proofs.Tables.{is_same-refl, eq_numbers}
 use Rattle.ws_laws.proofs.Walker.{IsHistory, performed-goes, nothing-told}
 use Rattle.ws_promise_laws.proofs.Runs.{Straight}

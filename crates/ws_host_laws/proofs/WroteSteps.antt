@@ -14,7 +14,9 @@ use Rattle.ws_steps.specs.Promises.{first_job, next_job, after_next_job, watch}
 use Rattle.ws_steps.specs.Slots.{Slots, empty, Done, pending_host, host_at, with_promises, writable_at, owner_at}
 use Rattle.ws_steps.specs.Turns.{row}
 use Rattle.ws_steps.specs.Jobs.{job_effects}
-use Rattle.ws_steps.specs.Calls.{Begun, begin, settle_host, outcome_of}
+use Rattle.ws_steps.specs.Begun.{Begun}
+use Rattle.ws_steps.specs.ControllerCalls.{settle_host, outcome_of}
+use Rattle.ws_steps.specs.Calls.{begin}
 use Rattle.ws_steps.specs.Run.{Entry, Called, run, step, older, after_event}
 use Rattle.ws_steps.specs.Histories.{is_same, over}
 use Rattle.ws_laws.proofs.Begin.{begin-makes}

@@ -8,8 +8,9 @@ use Rattle.ws_value.specs.declared.value.Value.{Value}
 use Rattle.ws_steps.specs.declared.calls.Call.TheVariants.{Pipe}
 use Rattle.ws_steps.specs.declared.locks.Lock.TheVariants.{Inner}
 use Rattle.ws_steps.specs.declared.pipes.Prevent.{Prevent}
-use Rattle.ws_steps.specs.Calls as calls
-use Rattle.ws_steps.specs.Calls.{Begun, begin, named}
+use Rattle.ws_steps.specs.PipeCalls as pipe_calls
+use Rattle.ws_steps.specs.Begun.{Begun}
+use Rattle.ws_steps.specs.Calls.{begin, named}
 use Rattle.ws_steps.specs.Histories.{is_same}
 use Rattle.ws_steps.specs.Pipes as pipe
 use Rattle.ws_steps.specs.Promises.{next_id, fresh}
@@ -43,7 +44,7 @@ module _ (i j : StreamId) (prevent : Prevent) (signal : Option SignalId) (s : Sl
   p = record { 0 = length s.pipes }
 
   abbrev b : Begun
-  b = calls.pipe_to i j prevent signal s
+  b = pipe_calls.pipe_to i j prevent signal s
 
   abbrev d : Done
   d = b.done
@@ -53,10 +54,10 @@ module _ (i j : StreamId) (prevent : Prevent) (signal : Option SignalId) (s : Sl
 
   -- the call begins so
 
-  unlocked : calls.pipe_unlocked i j prevent signal s ≡ b
+  unlocked : pipe_calls.pipe_unlocked i j prevent signal s ≡ b
   unlocked = rw (free.unread, free.unwritten) refl
 
-  signalled : (o : Option SignalId) → IsThere o s → calls.for_signal_where o (calls.pipe_unlocked i j prevent signal) s ≡ b
+  signalled : (o : Option SignalId) → IsThere o s → pipe_calls.for_signal_where o (pipe_calls.pipe_unlocked i j prevent signal) s ≡ b
   signalled None h = unlocked
   signalled (Some a) h = rw h unlocked
 
@@ -66,22 +67,22 @@ module _ (i j : StreamId) (prevent : Prevent) (signal : Option SignalId) (s : Sl
 
   -- what it begins with
 
-  begins-inner : (n : ℕ) (reason : Option Plain) (o : Option SignalId) → Each (IsInner i j p n) (calls.pipe_begins p (next_id s.promises) (next_id (fresh (fresh s.promises))) o reason)
+  begins-inner : (n : ℕ) (reason : Option Plain) (o : Option SignalId) → Each (IsInner i j p n) (pipe_calls.pipe_begins p (next_id s.promises) (next_id (fresh (fresh s.promises))) o reason)
   begins-inner n (Some r) o = (tt, tt)
   begins-inner n None None = (tt, (tt, (tt, tt)))
   begins-inner n None (Some g) = (tt, (tt, (tt, (tt, tt))))
 
-  begins-last : (reason : Option Plain) (o : Option SignalId) → Each (IsNotLast p) (calls.pipe_begins p (next_id s.promises) (next_id (fresh (fresh s.promises))) o reason)
+  begins-last : (reason : Option Plain) (o : Option SignalId) → Each (IsNotLast p) (pipe_calls.pipe_begins p (next_id s.promises) (next_id (fresh (fresh s.promises))) o reason)
   begins-last (Some r) o = (and_false (nat_eq p.0 p.0), tt)
   begins-last None None = (refl, (refl, (refl, tt)))
   begins-last None (Some g) = (refl, (refl, (refl, (refl, tt))))
 
-  begins-writes : (reason : Option Plain) (o : Option SignalId) → Each (IsSilent (writes j)) (calls.pipe_begins p (next_id s.promises) (next_id (fresh (fresh s.promises))) o reason)
+  begins-writes : (reason : Option Plain) (o : Option SignalId) → Each (IsSilent (writes j)) (pipe_calls.pipe_begins p (next_id s.promises) (next_id (fresh (fresh s.promises))) o reason)
   begins-writes (Some r) o = (refl, tt)
   begins-writes None None = (refl, (refl, (refl, tt)))
   begins-writes None (Some g) = (refl, (refl, (refl, (refl, tt))))
 
-  begins-chunks : (reason : Option Plain) (o : Option SignalId) → Each (IsSilent (chunks p)) (calls.pipe_begins p (next_id s.promises) (next_id (fresh (fresh s.promises))) o reason)
+  begins-chunks : (reason : Option Plain) (o : Option SignalId) → Each (IsSilent (chunks p)) (pipe_calls.pipe_begins p (next_id s.promises) (next_id (fresh (fresh s.promises))) o reason)
   begins-chunks (Some r) o = (refl, tt)
   begins-chunks None None = (refl, (refl, (refl, tt)))
   begins-chunks None (Some g) = (refl, (refl, (refl, (refl, tt))))
@@ -125,8 +126,8 @@ module _ (i j : StreamId) (prevent : Prevent) (signal : Option SignalId) (s : Sl
         porting = λ c. rw is_begun at ((port-going j c).call g.0 s (Pipe i j prevent signal) (g.1.1 c));
         few = few;
         only = omega (arith, none_, o, x, before);
-        inner = (tt, (tt, (tt, begins-inner (rank (pipe_at p d.slots).phase) (calls.reason_of signal s) signal)));
-        ends = append_ends j p d.caused (refl, (refl, (refl, begins-last (calls.reason_of signal s) signal)));
+        inner = (tt, (tt, (tt, begins-inner (rank (pipe_at p d.slots).phase) (pipe_calls.reason_of signal s) signal)));
+        ends = append_ends j p d.caused (refl, (refl, (refl, begins-last (pipe_calls.reason_of signal s) signal)));
         untied = free.untied;
         sunk = sink-owned j s (reached-sunk s free.reached) free.sink;
       }
@@ -138,8 +139,8 @@ module _ (i j : StreamId) (prevent : Prevent) (signal : Option SignalId) (s : Sl
   begun-told =
       rw (
         at,
-        silent-all (writes j) d.caused (refl, (rw (if_same (is_same j j)) refl, (refl, begins-writes (calls.reason_of signal s) signal))),
-        silent-all (chunks p) d.caused (refl, (refl, (refl, begins-chunks (calls.reason_of signal s) signal))),
+        silent-all (writes j) d.caused (refl, (rw (if_same (is_same j j)) refl, (refl, begins-writes (pipe_calls.reason_of signal s) signal))),
+        silent-all (chunks p) d.caused (refl, (refl, (refl, begins-chunks (pipe_calls.reason_of signal s) signal))),
       ) refl
 
   begun : From i j p t d.slots.locks none d.slots d.caused

@@ -10,8 +10,13 @@ use Rattle.ws_steps.specs.declared.locks.{Lock.{Lock}, Lock.TheVariants.{Reader 
 use Rattle.ws_steps.specs.declared.pipes.Prevent.{Prevent}
 use Rattle.ws_steps.specs.declared.transform.{TransformId.{TransformId}}
 use Rattle.ws_steps.specs.declared.writable.Writer.{Writer}
-use Rattle.ws_steps.specs.Calls as calls
-use Rattle.ws_steps.specs.Calls.{Begun, begin}
+use Rattle.ws_steps.specs.Begun as replying
+use Rattle.ws_steps.specs.MakingCalls as making_calls
+use Rattle.ws_steps.specs.LockCalls as lock_calls
+use Rattle.ws_steps.specs.ControllerCalls as controller_calls
+use Rattle.ws_steps.specs.PipeCalls as pipe_calls
+use Rattle.ws_steps.specs.Begun.{Begun}
+use Rattle.ws_steps.specs.Calls.{begin}
 use Rattle.ws_steps.specs.Histories.{is_same}
 use Rattle.ws_steps.specs.Promises.{Table, next_id, fresh, is_pending_at}
 use Rattle.ws_steps.specs.Readable as readable
@@ -75,25 +80,25 @@ module _ (t : TransformId) (r : StreamId) (s : Slots) (halved : Halved s) (reads
           let is : r ≡ k = sym reads.1.1 ∙ (ap (λ (x : TransformShape). x.readable) same ∙ h.1.1) in
           let yes : is_same r k ≡ true = rw (← is) (is_same-refl r) in absurd (cc)
 
-  unchanged : (reply : Reply) → P (calls.replies reply s)
+  unchanged : (reply : Reply) → P (replying.replies reply s)
   unchanged reply = tt
 
-  rejected : P (calls.rejected s)
+  rejected : P (replying.rejected s)
   rejected = (tt, tt)
 
-  for_readable : (k : StreamId) (operation : Slots → Begun) → (has_readable k s ≡ true → P (operation s)) → P (calls.for_readable k operation s)
-  for_readable k operation h = either P (has_readable k s) (operation s) (calls.unsupported s) h (λ e. tt)
+  for_readable : (k : StreamId) (operation : Slots → Begun) → (has_readable k s ≡ true → P (operation s)) → P (replying.for_readable k operation s)
+  for_readable k operation h = either P (has_readable k s) (operation s) (replying.unsupported s) h (λ e. tt)
 
-  for_source : (k : StreamId) (operation : Slots → Begun) → P (operation s) → P (calls.for_source k operation s)
-  for_source k operation h = either P (has_source k s) (operation s) (calls.unsupported s) (λ e. h) (λ e. tt)
+  for_source : (k : StreamId) (operation : Slots → Begun) → P (operation s) → P (replying.for_source k operation s)
+  for_source k operation h = either P (has_source k s) (operation s) (replying.unsupported s) (λ e. h) (λ e. tt)
 
-  for_byte : (k : StreamId) (operation : Slots → Begun) → P (operation s) → P (calls.for_byte k operation s)
-  for_byte k operation h = either P (has_byte k s) (operation s) (calls.unsupported s) (λ e. h) (λ e. tt)
+  for_byte : (k : StreamId) (operation : Slots → Begun) → P (operation s) → P (replying.for_byte k operation s)
+  for_byte k operation h = either P (has_byte k s) (operation s) (replying.unsupported s) (λ e. h) (λ e. tt)
 
-  for_writable : (k : StreamId) (operation : Slots → Begun) → P (operation s) → P (calls.for_writable k operation s)
-  for_writable k operation h = either P (has_writable k s) (operation s) (calls.unsupported s) (λ e. h) (λ e. tt)
+  for_writable : (k : StreamId) (operation : Slots → Begun) → P (operation s) → P (replying.for_writable k operation s)
+  for_writable k operation h = either P (has_writable k s) (operation s) (replying.unsupported s) (λ e. h) (λ e. tt)
 
-  by_reader : (holding : StreamId → Slots → Begun) (free : Slots → Begun) → ((k : StreamId) → P (holding k s)) → P (free s) → (o : Option Lock) → P (calls.by_reader holding free s o)
+  by_reader : (holding : StreamId → Slots → Begun) (free : Slots → Begun) → ((k : StreamId) → P (holding k s)) → P (free s) → (o : Option Lock) → P (lock_calls.by_reader holding free s o)
   by_reader holding free h f None = tt
   by_reader holding free h f (Some (ReaderLock (Some k) closed)) = for_source k (holding k) (h k)
   by_reader holding free h f (Some (ReaderLock None closed)) = f
@@ -103,19 +108,19 @@ module _ (t : TransformId) (r : StreamId) (s : Slots) (halved : Halved s) (reads
   by_reader holding free h f (Some (ReleasedWriter w)) = tt
   by_reader holding free h f (Some Inner) = tt
 
-  by_default_reader : (holding : StreamId → Slots → Begun) (free : Slots → Begun) → ((k : StreamId) → P (holding k s)) → P (free s) → (o : Option Lock) → P (calls.by_default_reader holding free s o)
-  by_default_reader holding free h f o = either P (calls.is_byob_reader o) (calls.unsupported s) (calls.by_reader holding free s o) (λ e. tt) (λ e. by_reader holding free h f o)
+  by_default_reader : (holding : StreamId → Slots → Begun) (free : Slots → Begun) → ((k : StreamId) → P (holding k s)) → P (free s) → (o : Option Lock) → P (lock_calls.by_default_reader holding free s o)
+  by_default_reader holding free h f o = either P (lock_calls.is_byob_reader o) (replying.unsupported s) (lock_calls.by_reader holding free s o) (λ e. tt) (λ e. by_reader holding free h f o)
 
-  by_byob_reader : (holding : StreamId → Slots → Begun) (free : Slots → Begun) → ((k : StreamId) → P (holding k s)) → P (free s) → (o : Option Lock) → P (calls.by_byob_reader holding free s o)
-  by_byob_reader holding free h f o = either P (calls.is_byob_reader o) (calls.by_reader holding free s o) (calls.unsupported s) (λ e. by_reader holding free h f o) (λ e. tt)
+  by_byob_reader : (holding : StreamId → Slots → Begun) (free : Slots → Begun) → ((k : StreamId) → P (holding k s)) → P (free s) → (o : Option Lock) → P (lock_calls.by_byob_reader holding free s o)
+  by_byob_reader holding free h f o = either P (lock_calls.is_byob_reader o) (lock_calls.by_reader holding free s o) (replying.unsupported s) (λ e. by_reader holding free h f o) (λ e. tt)
 
-  reads_into : (room : List ℕ) (element least : ℕ) (o : Option Lock) → P (calls.read_into_by room element least s o)
+  reads_into : (room : List ℕ) (element least : ℕ) (o : Option Lock) → P (lock_calls.read_into_by room element least s o)
   reads_into room element least o =
-      either P (not (calls.is_view (length room) element && nat_eq least 1)) (calls.unsupported s) _ (λ e. tt)
-      (λ e. either P (is_empty room) (calls.by_byob_reader (λ k. calls.rejected) calls.rejected s o) (calls.by_byob_reader (calls.read_into room element least) calls.rejected s o)
-      (λ f. by_byob_reader (λ k. calls.rejected) calls.rejected (λ k. rejected) rejected o) (λ f. by_byob_reader (calls.read_into room element least) calls.rejected (λ k. (tt, tt)) rejected o))
+      either P (not (lock_calls.is_view (length room) element && nat_eq least 1)) (replying.unsupported s) _ (λ e. tt)
+      (λ e. either P (is_empty room) (lock_calls.by_byob_reader (λ k. replying.rejected) replying.rejected s o) (lock_calls.by_byob_reader (lock_calls.read_into room element least) replying.rejected s o)
+      (λ f. by_byob_reader (λ k. replying.rejected) replying.rejected (λ k. rejected) rejected o) (λ f. by_byob_reader (lock_calls.read_into room element least) replying.rejected (λ k. (tt, tt)) rejected o))
 
-  by_writer : (holding : StreamId → Slots → Begun) (free : Slots → Begun) → ((k : StreamId) → P (holding k s)) → P (free s) → (o : Option Lock) → P (calls.by_writer holding free s o)
+  by_writer : (holding : StreamId → Slots → Begun) (free : Slots → Begun) → ((k : StreamId) → P (holding k s)) → P (free s) → (o : Option Lock) → P (lock_calls.by_writer holding free s o)
   by_writer holding free h f None = tt
   by_writer holding free h f (Some (ReaderLock stream closed)) = tt
   by_writer holding free h f (Some (ByobReader stream closed)) = tt
@@ -123,91 +128,91 @@ module _ (t : TransformId) (r : StreamId) (s : Slots) (halved : Halved s) (reads
   by_writer holding free h f (Some (ReleasedWriter w)) = f
   by_writer holding free h f (Some Inner) = tt
 
-  of_writer : (operation : Writer → Slots → Begun) (w : Option Writer) → ((v : Writer) → P (operation v s)) → P (calls.of_writer operation s w)
+  of_writer : (operation : Writer → Slots → Begun) (w : Option Writer) → ((v : Writer) → P (operation v s)) → P (lock_calls.of_writer operation s w)
   of_writer operation None h = tt
   of_writer operation (Some w) h = h w
 
-  closed_by : (o : Option Lock) → P (calls.closed_by s o)
+  closed_by : (o : Option Lock) → P (lock_calls.closed_by s o)
   closed_by None = tt
   closed_by (Some (ReaderLock stream closed)) = tt
   closed_by (Some (ByobReader stream closed)) = tt
-  closed_by (Some (WriterLock k)) = of_writer (λ w. calls.replies (Promise w.closed)) (writable_at k s).writer (λ w. tt)
+  closed_by (Some (WriterLock k)) = of_writer (λ w. replying.replies (Promise w.closed)) (writable_at k s).writer (λ w. tt)
   closed_by (Some (ReleasedWriter w)) = tt
   closed_by (Some Inner) = tt
 
-  ready_by : (o : Option Lock) → P (calls.ready_by s o)
+  ready_by : (o : Option Lock) → P (lock_calls.ready_by s o)
   ready_by None = tt
   ready_by (Some (ReaderLock stream closed)) = tt
   ready_by (Some (ByobReader stream closed)) = tt
-  ready_by (Some (WriterLock k)) = of_writer (λ w. calls.replies (Promise w.ready)) (writable_at k s).writer (λ w. tt)
+  ready_by (Some (WriterLock k)) = of_writer (λ w. replying.replies (Promise w.ready)) (writable_at k s).writer (λ w. tt)
   ready_by (Some (ReleasedWriter w)) = tt
   ready_by (Some Inner) = tt
 
-  renewed : (u : Table) (kept : Bool) → All t r (calls.reject_renewed u kept)
+  renewed : (u : Table) (kept : Bool) → All t r (lock_calls.reject_renewed u kept)
   renewed u true = tt
   renewed u false = (tt, tt)
 
-  releases_reader : (released : PromiseId → Lock) (l : LockId) (closed : PromiseId) (k : StreamId) → P (calls.release_reader released l closed k s)
-  releases_reader released l closed k = let kept : Bool = readable.is_readable (source_at k s).state in each-append (Calm t r) (calls.reject_renewed s.promises kept) _ (renewed s.promises kept) (tt, tt)
+  releases_reader : (released : PromiseId → Lock) (l : LockId) (closed : PromiseId) (k : StreamId) → P (lock_calls.release_reader released l closed k s)
+  releases_reader released l closed k = let kept : Bool = readable.is_readable (source_at k s).state in each-append (Calm t r) (lock_calls.reject_renewed s.promises kept) _ (renewed s.promises kept) (tt, tt)
 
-  releases_writer : (l : LockId) (k : StreamId) (w : Writer) → P (calls.release_writer l k w s)
+  releases_writer : (l : LockId) (k : StreamId) (w : Writer) → P (lock_calls.release_writer l k w s)
   releases_writer l k w =
       let ready : Bool = is_pending_at w.ready s.promises in
-      let u : Table = calls.with_renewed s.promises ready in
+      let u : Table = lock_calls.with_renewed s.promises ready in
       let closed : Bool = is_pending_at w.closed u in
-      each-append (Calm t r) (calls.reject_renewed s.promises ready) _ (renewed s.promises ready) (each-append (Calm t r) (calls.reject_renewed u closed) _ (renewed u closed) (tt, tt))
+      each-append (Calm t r) (lock_calls.reject_renewed s.promises ready) _ (renewed s.promises ready) (each-append (Calm t r) (lock_calls.reject_renewed u closed) _ (renewed u closed) (tt, tt))
 
-  release : (l : LockId) (o : Option Lock) → P (calls.release l s o)
+  release : (l : LockId) (o : Option Lock) → P (lock_calls.release l s o)
   release l None = tt
-  release l (Some (ReaderLock (Some k) closed)) = for_source k (calls.release_reader (ReaderLock None) l closed k) (releases_reader (ReaderLock None) l closed k)
+  release l (Some (ReaderLock (Some k) closed)) = for_source k (lock_calls.release_reader (ReaderLock None) l closed k) (releases_reader (ReaderLock None) l closed k)
   release l (Some (ReaderLock None closed)) = tt
-  release l (Some (ByobReader (Some k) closed)) = for_source k (calls.release_reader (ByobReader None) l closed k) (releases_reader (ByobReader None) l closed k)
+  release l (Some (ByobReader (Some k) closed)) = for_source k (lock_calls.release_reader (ByobReader None) l closed k) (releases_reader (ByobReader None) l closed k)
   release l (Some (ByobReader None closed)) = tt
-  release l (Some (WriterLock k)) = of_writer (calls.release_writer l k) (writable_at k s).writer (λ w. releases_writer l k w)
+  release l (Some (WriterLock k)) = of_writer (lock_calls.release_writer l k) (writable_at k s).writer (λ w. releases_writer l k w)
   release l (Some (ReleasedWriter w)) = tt
   release l (Some Inner) = tt
 
-  abort_unless : (reason : Plain) (k : StreamId) (o : Option PromiseId) → P (calls.abort_unless reason k s o)
+  abort_unless : (reason : Plain) (k : StreamId) (o : Option PromiseId) → P (lock_calls.abort_unless reason k s o)
   abort_unless reason k None = (tt, tt)
   abort_unless reason k (Some q) = tt
 
-  settle_host : (h : HostId) (answer : Answer) (o : Option PromiseId) → P (calls.settle_host h answer s o)
+  settle_host : (h : HostId) (answer : Answer) (o : Option PromiseId) → P (controller_calls.settle_host h answer s o)
   settle_host h answer None = tt
   settle_host h answer (Some q) = (tt, tt)
 
-  unlocked_readable : (k : StreamId) (locked : Slots → Begun) (free : StreamId → Slots → Begun) → P (locked s) → P (free k s) → P (calls.unlocked_readable k locked free s)
+  unlocked_readable : (k : StreamId) (locked : Slots → Begun) (free : StreamId → Slots → Begun) → P (locked s) → P (free k s) → P (replying.unlocked_readable k locked free s)
   unlocked_readable k locked free l f =
       for_source k (λ s. if readable_looks.is_locked (source_at k s) then locked s else free k s) (either P (readable_looks.is_locked (source_at k s)) (locked s) (free k s) (λ e. l) (λ e. f))
 
-  unlocked_writable : (k : StreamId) (locked : Slots → Begun) (free : StreamId → Slots → Begun) → P (locked s) → P (free k s) → P (calls.unlocked_writable k locked free s)
+  unlocked_writable : (k : StreamId) (locked : Slots → Begun) (free : StreamId → Slots → Begun) → P (locked s) → P (free k s) → P (replying.unlocked_writable k locked free s)
   unlocked_writable k locked free l f =
       for_writable k (λ s. if writable_looks.is_locked (writable_at k s) then locked s else free k s) (either P (writable_looks.is_locked (writable_at k s)) (locked s) (free k s) (λ e. l) (λ e. f))
 
-  pipe-begins : (me : PipeId) (a b : PromiseId) (signal : Option SignalId) (reason : Option Plain) → All t r (calls.pipe_begins me a b signal reason)
+  pipe-begins : (me : PipeId) (a b : PromiseId) (signal : Option SignalId) (reason : Option Plain) → All t r (pipe_calls.pipe_begins me a b signal reason)
   pipe-begins me a b signal (Some c) = (tt, tt)
   pipe-begins me a b None None = (tt, (tt, (tt, tt)))
   pipe-begins me a b (Some g) None = (tt, (tt, (tt, (tt, tt))))
 
-  pipe_to : (source dest : StreamId) (prevent : Prevent) (signal : Option SignalId) → P (calls.pipe_to source dest prevent signal s)
-  pipe_to source dest prevent signal = (tt, (tt, (tt, pipe-begins (record { 0 = length s.pipes }) (next_id s.promises) (next_id (fresh (fresh s.promises))) signal (calls.reason_of signal s))))
+  pipe_to : (source dest : StreamId) (prevent : Prevent) (signal : Option SignalId) → P (pipe_calls.pipe_to source dest prevent signal s)
+  pipe_to source dest prevent signal = (tt, (tt, (tt, pipe-begins (record { 0 = length s.pipes }) (next_id s.promises) (next_id (fresh (fresh s.promises))) signal (pipe_calls.reason_of signal s))))
 
-  pipe_where : (source dest : StreamId) (prevent : Prevent) (signal : Option SignalId) → P (calls.for_signal_where signal (calls.pipe_unlocked source dest prevent signal) s)
+  pipe_where : (source dest : StreamId) (prevent : Prevent) (signal : Option SignalId) → P (pipe_calls.for_signal_where signal (pipe_calls.pipe_unlocked source dest prevent signal) s)
   pipe_where source dest prevent signal = by signal
     where
-      free : P (calls.pipe_unlocked source dest prevent signal s)
+      free : P (pipe_calls.pipe_unlocked source dest prevent signal s)
       free =
-          either P (readable_looks.is_locked (source_at source s)) (calls.rejected s) (if writable_looks.is_locked (writable_at dest s) then calls.rejected s else calls.pipe_to source dest prevent signal s) (λ e. rejected)
-          (λ e. either P (writable_looks.is_locked (writable_at dest s)) (calls.rejected s) (calls.pipe_to source dest prevent signal s) (λ f. rejected) (λ f. pipe_to source dest prevent signal))
+          either P (readable_looks.is_locked (source_at source s)) (replying.rejected s) (if writable_looks.is_locked (writable_at dest s) then replying.rejected s else pipe_calls.pipe_to source dest prevent signal s) (λ e. rejected)
+          (λ e. either P (writable_looks.is_locked (writable_at dest s)) (replying.rejected s) (pipe_calls.pipe_to source dest prevent signal s) (λ f. rejected) (λ f. pipe_to source dest prevent signal))
 
-      by : (o : Option SignalId) → P (calls.for_signal_where o (calls.pipe_unlocked source dest prevent signal) s)
+      by : (o : Option SignalId) → P (pipe_calls.for_signal_where o (pipe_calls.pipe_unlocked source dest prevent signal) s)
       by None = free
-      by (Some g) = either P (has_signal g s) (calls.pipe_unlocked source dest prevent signal s) (calls.unsupported s) (λ e. free) (λ e. tt)
+      by (Some g) = either P (has_signal g s) (pipe_calls.pipe_unlocked source dest prevent signal s) (replying.unsupported s) (λ e. free) (λ e. tt)
 
-  starts : (q : PromiseId) (k : StreamId) (start : StartBy) → Calm t r (calls.start_transform q k start)
+  starts : (q : PromiseId) (k : StreamId) (start : StartBy) → Calm t r (making_calls.start_transform q k start)
   starts q k Now = tt
   starts q k Later = tt
 
-  enqueues : (k : StreamId) (v : Value) (o : Owner) → P (calls.enqueue_by v k s o)
+  enqueues : (k : StreamId) (v : Value) (o : Owner) → P (controller_calls.enqueue_by v k s o)
   enqueues k v Host = either P (can_close_or_enqueue (readable_at k s)) _ _ (λ e. (tt, tt)) (λ e. tt)
   enqueues k v (HalfOf a) = either P (can_close_or_enqueue (readable_at k s)) _ _ (λ e. (tt, tt)) (λ e. tt)
   enqueues k v (BranchOf a half) = tt
@@ -215,80 +220,80 @@ module _ (t : TransformId) (r : StreamId) (s : Slots) (halved : Halved s) (reads
 
   -- a byte controller
 
-  enqueues_bytes : (k : StreamId) (v : Value) → P (calls.enqueue_bytes k s v)
+  enqueues_bytes : (k : StreamId) (v : Value) → P (controller_calls.enqueue_bytes k s v)
   enqueues_bytes k (PlainValue v) = tt
   enqueues_bytes k (Bytes b) = either P (not (is_empty b) && byte.can_take (byte_at k s)) _ _ (λ e. (tt, tt)) (λ e. tt)
 
-  finishes_bytes : (k : StreamId) → has_byte k s ≡ true → P (calls.finish_bytes k s)
+  finishes_bytes : (k : StreamId) → has_byte k s ≡ true → P (controller_calls.finish_bytes k s)
   finishes_bytes k is = either P (byte.can_take (byte_at k s)) _ _ (λ e. (not-bytes t r s k halved reads is, tt)) (λ e. tt)
 
-  requests : (k : StreamId) (q : Option RequestId) (ds : List Descriptor) → P (calls.request_by k s q ds)
+  requests : (k : StreamId) (q : Option RequestId) (ds : List Descriptor) → P (controller_calls.request_by k s q ds)
   requests k q [] = tt
   requests k (Some q) (d ∷ ds) = tt
   requests k None (d ∷ ds) = (tt, tt)
 
-  responds : (q : RequestId) (b : List ℕ) (o : Option StreamId) → P (calls.respond q b s o)
+  responds : (q : RequestId) (b : List ℕ) (o : Option StreamId) → P (controller_calls.respond q b s o)
   responds q b None = tt
-  responds q b (Some k) = either P (calls.is_request q (byte_at k s).request) _ _ (λ e. by (respond_throws (length b) (byte_at k s).stream.state (byte_at k s).descriptors)) (λ e. tt)
+  responds q b (Some k) = either P (controller_calls.is_request q (byte_at k s).request) _ _ (λ e. by (respond_throws (length b) (byte_at k s).stream.state (byte_at k s).descriptors)) (λ e. tt)
     where
-      by : (o : Option Fault) → P (calls.respond_unless k b s o)
+      by : (o : Option Fault) → P (controller_calls.respond_unless k b s o)
       by None = (tt, tt)
       by (Some f) = tt
 
-  finishes : (k : StreamId) (o : Owner) → has_readable k s ≡ true → (readable_at k s).owner ≡ o → P (calls.finish_by k s o)
+  finishes : (k : StreamId) (o : Owner) → has_readable k s ≡ true → (readable_at k s).owner ≡ o → P (controller_calls.finish_by k s o)
   finishes k Host there own = either P (can_close_or_enqueue (readable_at k s)) _ _ (λ e. (own-apart k there own, tt)) (λ e. tt)
   finishes k (HalfOf a) there own = tt
   finishes k (BranchOf a half) there own = tt
   finishes k (EndOf c) there own = tt
 
-  terminates : (k : StreamId) (o : Owner) → has_readable k s ≡ true → (readable_at k s).owner ≡ o → is_same r k ≡ false → P (calls.terminate_by s o)
+  terminates : (k : StreamId) (o : Owner) → has_readable k s ≡ true → (readable_at k s).owner ≡ o → is_same r k ≡ false → P (controller_calls.terminate_by s o)
   terminates k Host there own n = tt
   terminates k (HalfOf a) there own n = (half-apart k a there own n, tt)
   terminates k (BranchOf a half) there own n = tt
   terminates k (EndOf c) there own n = tt
 
-  fails_readable : (reason : Plain) (k : StreamId) (o : Owner) → P (calls.fail_readable_by reason k s o)
+  fails_readable : (reason : Plain) (k : StreamId) (o : Owner) → P (controller_calls.fail_readable_by reason k s o)
   fails_readable reason k Host = (tt, tt)
   fails_readable reason k (HalfOf a) = (tt, tt)
   fails_readable reason k (BranchOf a half) = tt
   fails_readable reason k (EndOf c) = tt
 
-  fails_writable : (reason : Plain) (k : StreamId) (o : Owner) → P (calls.fail_writable_by reason k s o)
+  fails_writable : (reason : Plain) (k : StreamId) (o : Owner) → P (controller_calls.fail_writable_by reason k s o)
   fails_writable reason k Host = (tt, tt)
   fails_writable reason k (HalfOf a) = tt
   fails_writable reason k (BranchOf a half) = tt
   fails_writable reason k (EndOf c) = tt
 
-  desires : (k : StreamId) (o : Owner) → P (calls.desired_by k s o)
+  desires : (k : StreamId) (o : Owner) → P (controller_calls.desired_by k s o)
   desires k Host = tt
   desires k (HalfOf a) = tt
   desires k (BranchOf a half) = tt
   desires k (EndOf c) = tt
 
-  tee_of : (k : StreamId) → P (calls.tee_of k s)
+  tee_of : (k : StreamId) → P (making_calls.tee_of k s)
   tee_of k =
-      either P (has_byte k s) (calls.unsupported s) _ (λ e. tt)
-      (λ e. either P (is_teed k s) (calls.throws_type_error s) _ (λ f. tt)
+      either P (has_byte k s) (replying.unsupported s) _ (λ e. tt)
+      (λ e. either P (is_teed k s) (replying.throws_type_error s) _ (λ f. tt)
       (λ f. either P (nat_lt (length s.streams + 1) most_streams) _ _ (λ g. (tt, (tt, (tt, (tt, tt))))) (λ g. tt)))
 
-  opens : (side : Side) → P (calls.open_end side (record { 0 = length s.streams }) s)
+  opens : (side : Side) → P (pipe_calls.open_end side (record { 0 = length s.streams }) s)
   opens ReadableSide = (tt, tt)
   opens WritableSide = (tt, tt)
 
   abbrev new : StreamId
   new = record { 0 = length s.streams }
 
-  sends_readable : (k : StreamId) → P (calls.send_readable k new s)
+  sends_readable : (k : StreamId) → P (pipe_calls.send_readable k new s)
   sends_readable k = let t : Table = fresh s.promises in (tt, (tt, (tt, (tt, pipe-begins (record { 0 = length s.pipes }) (next_id t) (next_id (fresh (fresh t))) None None))))
 
-  sends_writable : (k : StreamId) → P (calls.send_writable k new s)
+  sends_writable : (k : StreamId) → P (pipe_calls.send_writable k new s)
   sends_writable k = let t : Table = s.promises in (tt, (tt, (tt, (tt, pipe-begins (record { 0 = length s.pipes }) (next_id t) (next_id (fresh (fresh t))) None None))))
 
-  sends : (k : StreamId) → P (calls.send k s)
+  sends : (k : StreamId) → P (pipe_calls.send k s)
   sends k =
       either P (has_source k s) _ _
-      (λ e. unlocked_readable k calls.throws_data_clone (λ source. calls.make_stream (calls.send_readable source)) tt (either P (nat_lt (length s.streams) most_streams) _ _ (λ f. sends_readable k) (λ f. tt)))
-      (λ e. unlocked_writable k calls.throws_data_clone (λ dest. calls.make_stream (calls.send_writable dest)) tt (either P (nat_lt (length s.streams) most_streams) _ _ (λ f. sends_writable k) (λ f. tt)))
+      (λ e. unlocked_readable k replying.throws_data_clone (λ source. making_calls.make_stream (pipe_calls.send_readable source)) tt (either P (nat_lt (length s.streams) most_streams) _ _ (λ f. sends_readable k) (λ f. tt)))
+      (λ e. unlocked_writable k replying.throws_data_clone (λ dest. making_calls.make_stream (pipe_calls.send_writable dest)) tt (either P (nat_lt (length s.streams) most_streams) _ _ (λ f. sends_writable k) (λ f. tt)))
 
   pub call-calm : (c : Call) → spares r c ≡ true → P (begin c s)
   unfolding begin
@@ -296,45 +301,45 @@ module _ (t : TransformId) (r : StreamId) (s : Slots) (halved : Halved s) (reads
   call-calm (MakeBytes mark auto start) l = either P (nat_lt (length s.streams) most_streams) _ _ (λ e. (tt, tt)) (λ e. tt)
   call-calm (MakeWritable mark size start) l = either P (nat_lt (length s.streams) most_streams) _ _ (λ e. (tt, tt)) (λ e. tt)
   call-calm (MakeTransform kind m n start) l = either P (nat_lt (length s.streams + 1) most_streams) _ _ (λ e. (tt, (tt, (tt, (tt, (starts (next_id (fresh s.promises)) (record { 0 = length s.streams + 1 }) start, tt)))))) (λ e. tt)
-  call-calm (GetReader k) l = unlocked_readable k calls.throws_type_error calls.get_reader tt (tt, tt)
-  call-calm (TeeCall k) l = unlocked_readable k calls.throws_type_error calls.tee_of tt (tee_of k)
+  call-calm (GetReader k) l = unlocked_readable k replying.throws_type_error making_calls.get_reader tt (tt, tt)
+  call-calm (TeeCall k) l = unlocked_readable k replying.throws_type_error making_calls.tee_of tt (tee_of k)
   call-calm (GetByob k) l =
-      unlocked_readable k calls.throws_type_error calls.get_byob_of tt (either P (has_byte k s) (calls.get_byob k s) (calls.throws_type_error s) (λ e. (tt, tt)) (λ e. tt))
-  call-calm (GetWriter k) l = unlocked_writable k calls.throws_type_error calls.get_writer tt (tt, tt)
-  call-calm (Cancel k reason) l = unlocked_readable k calls.rejected (calls.cancel reason) rejected (tt, tt)
-  call-calm (CancelBy n reason) l = by_reader (calls.cancel reason) calls.rejected (λ k. (tt, tt)) rejected (lock_at n s)
+      unlocked_readable k replying.throws_type_error making_calls.get_byob_of tt (either P (has_byte k s) (making_calls.get_byob k s) (replying.throws_type_error s) (λ e. (tt, tt)) (λ e. tt))
+  call-calm (GetWriter k) l = unlocked_writable k replying.throws_type_error making_calls.get_writer tt (tt, tt)
+  call-calm (Cancel k reason) l = unlocked_readable k replying.rejected (lock_calls.cancel reason) rejected (tt, tt)
+  call-calm (CancelBy n reason) l = by_reader (lock_calls.cancel reason) replying.rejected (λ k. (tt, tt)) rejected (lock_at n s)
   call-calm (ReadInto n room element least) l = reads_into room element least (lock_at n s)
-  call-calm (Read n) l = by_default_reader calls.read calls.rejected (λ k. (tt, tt)) rejected (lock_at n s)
-  call-calm (Write n v) l = by_writer (calls.write v) calls.rejected (λ k. (tt, tt)) rejected (lock_at n s)
-  call-calm (Close k) l = unlocked_writable k calls.rejected calls.close rejected (tt, tt)
-  call-calm (CloseBy n) l = by_writer calls.close calls.rejected (λ k. (tt, tt)) rejected (lock_at n s)
-  call-calm (Abort k reason) l = unlocked_writable k calls.rejected (calls.abort reason) rejected (abort_unless reason k (writable.answered_abort (writable_at k s)))
-  call-calm (AbortBy n reason) l = by_writer (calls.abort reason) calls.rejected (λ k. abort_unless reason k (writable.answered_abort (writable_at k s))) rejected (lock_at n s)
+  call-calm (Read n) l = by_default_reader lock_calls.read replying.rejected (λ k. (tt, tt)) rejected (lock_at n s)
+  call-calm (Write n v) l = by_writer (lock_calls.write v) replying.rejected (λ k. (tt, tt)) rejected (lock_at n s)
+  call-calm (Close k) l = unlocked_writable k replying.rejected lock_calls.close rejected (tt, tt)
+  call-calm (CloseBy n) l = by_writer lock_calls.close replying.rejected (λ k. (tt, tt)) rejected (lock_at n s)
+  call-calm (Abort k reason) l = unlocked_writable k replying.rejected (lock_calls.abort reason) rejected (abort_unless reason k (writable.answered_abort (writable_at k s)))
+  call-calm (AbortBy n reason) l = by_writer (lock_calls.abort reason) replying.rejected (λ k. abort_unless reason k (writable.answered_abort (writable_at k s))) rejected (lock_at n s)
   call-calm (Closed n) l = closed_by (lock_at n s)
   call-calm (Ready n) l = ready_by (lock_at n s)
   call-calm (Release n) l = release n (lock_at n s)
   call-calm (Enqueue k v) l =
-      either P (has_byte k s) (calls.enqueue_bytes k s v) _ (λ e. enqueues_bytes k v) (λ e. for_readable k (λ z. calls.enqueue_by v k z (readable_at k z).owner) (λ e. enqueues k v (readable_at k s).owner))
+      either P (has_byte k s) (controller_calls.enqueue_bytes k s v) _ (λ e. enqueues_bytes k v) (λ e. for_readable k (λ z. controller_calls.enqueue_by v k z (readable_at k z).owner) (λ e. enqueues k v (readable_at k s).owner))
   call-calm (Finish k) l =
-      either P (has_byte k s) (calls.finish_bytes k s) _ (λ e. finishes_bytes k e) (λ e. for_readable k (λ z. calls.finish_by k z (readable_at k z).owner) (λ e. finishes k (readable_at k s).owner e refl))
+      either P (has_byte k s) (controller_calls.finish_bytes k s) _ (λ e. finishes_bytes k e) (λ e. for_readable k (λ z. controller_calls.finish_by k z (readable_at k z).owner) (λ e. finishes k (readable_at k s).owner e refl))
   call-calm (Fail k reason) l =
       either P (has_readable k s) _ _ (λ e. fails_readable reason k (readable_at k s).owner)
-      (λ e. either P (has_byte k s) _ _ (λ f. (tt, tt)) (λ f. for_writable k (λ s. calls.fail_writable_by reason k s (writable_at k s).owner) (fails_writable reason k (writable_at k s).owner)))
-  call-calm (Terminate k) l = for_readable k (λ z. calls.terminate_by z (readable_at k z).owner) (λ e. terminates k (readable_at k s).owner e refl (not_false (is_same r k) l))
-  call-calm (Request k) l = for_byte k (calls.request k) (requests k (byte_at k s).request (byte_at k s).descriptors)
+      (λ e. either P (has_byte k s) _ _ (λ f. (tt, tt)) (λ f. for_writable k (λ s. controller_calls.fail_writable_by reason k s (writable_at k s).owner) (fails_writable reason k (writable_at k s).owner)))
+  call-calm (Terminate k) l = for_readable k (λ z. controller_calls.terminate_by z (readable_at k z).owner) (λ e. terminates k (readable_at k s).owner e refl (not_false (is_same r k) l))
+  call-calm (Request k) l = for_byte k (controller_calls.request k) (requests k (byte_at k s).request (byte_at k s).descriptors)
   call-calm (Respond q b) l = responds q b (stream_of_request q s)
-  call-calm (Desired k) l = for_source k (calls.desired k) (desires k (owner_at k s))
-  call-calm (DesiredBy n) l = by_writer calls.desired_of_writer calls.throws_type_error (λ k. tt) tt (lock_at n s)
+  call-calm (Desired k) l = for_source k (controller_calls.desired k) (desires k (owner_at k s))
+  call-calm (DesiredBy n) l = by_writer controller_calls.desired_of_writer replying.throws_type_error (λ k. tt) tt (lock_at n s)
   call-calm (Pipe source dest prevent signal) l =
-      for_source source (calls.for_writable dest (calls.for_signal_where signal (calls.pipe_unlocked source dest prevent signal)))
-      (for_writable dest (calls.for_signal_where signal (calls.pipe_unlocked source dest prevent signal)) (pipe_where source dest prevent signal))
+      for_source source (replying.for_writable dest (pipe_calls.for_signal_where signal (pipe_calls.pipe_unlocked source dest prevent signal)))
+      (for_writable dest (pipe_calls.for_signal_where signal (pipe_calls.pipe_unlocked source dest prevent signal)) (pipe_where source dest prevent signal))
   call-calm MakeSignal l = tt
   call-calm (Trigger a reason) l = either P (has_signal a s) _ _ (λ e. (tt, tt)) (λ e. tt)
   call-calm (Send k) l = sends k
   call-calm (Open side) l = either P (nat_lt (length s.streams) most_streams) _ _ (λ e. opens side) (λ e. tt)
   call-calm (Deliver q m) l = either P (has_port q s) _ _ (λ e. (tt, tt)) (λ e. tt)
   call-calm (Settle h answer) l = settle_host h answer (host_at h s)
-  call-calm (State k) l = either P (has_source k s) _ _ (λ e. tt) (λ e. for_writable k (λ s. calls.replies (ReplyState (writable_looks.state_of (writable_at k s))) s) tt)
+  call-calm (State k) l = either P (has_source k s) _ _ (λ e. tt) (λ e. for_writable k (λ s. replying.replies (ReplyState (writable_looks.state_of (writable_at k s))) s) tt)
   call-calm Step l = tt
 
 -- so a call that spares it closes it in no step

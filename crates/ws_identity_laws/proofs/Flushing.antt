@@ -10,7 +10,8 @@ use Rattle.ws_steps.specs.declared.promises.Step.TheVariants.{ReadablePull, Retu
 use Rattle.ws_steps.specs.declared.readable.ReadRequest.TheVariants.{Promise, Pipe as PipeRequest, Tee as TeeRequest}
 use Rattle.ws_steps.specs.declared.transform.{Halves.{Halves}, TransformId.{TransformId}, TransformOperation.{TransformOperation}}
 use Rattle.ws_steps.specs.declared.transform.TransformOperation.TheVariants as names
-use Rattle.ws_steps.specs.Calls.{Begun, begin}
+use Rattle.ws_steps.specs.Begun.{Begun}
+use Rattle.ws_steps.specs.Calls.{begin}
 use Rattle.ws_steps.specs.Histories.{is_same}
 use Rattle.ws_steps.specs.Jobs.{job_effects}
 use Rattle.ws_steps.specs.Operations.{transform_operation, tee_operation, port_operation}
@@ -25,7 +26,7 @@ use Rattle.ws_laws.proofs.EachCall.{each_call}
 use Rattle.ws_laws.proofs.Halves.{Halved, halved-stays, halved-empty, call-among}
 use Rattle.ws_laws.proofs.Lists.{Each, each-append}
 use Rattle.ws_laws.proofs.PipeDoes.{IsStepOf, PipeCauses}
-use Rattle.ws_laws.proofs.Rows.{row-causes}
+use Rattle.ws_laws.proofs.Causes.{row-causes}
 use Rattle.ws_laws.proofs.Shapes.{WritableOf, TransformShape, stream_shape, stream_shapes, transform_shapes, map-there, row-owner, row-transform_shapes}
 use Rattle.ws_laws.proofs.Tables.{eq_numbers, is_same-refl, writable_there}
 use Rattle.ws_laws.proofs.Walker as walker

@@ -13,7 +13,8 @@ use Rattle.ws_steps.specs.declared.pipes.PipeOperation.{PipeOperation}
 use Rattle.ws_steps.specs.declared.promises.Job.{Job}
 use Rattle.ws_steps.specs.declared.readable.ReadableOperation.{ReadableOperation}
 use Rattle.ws_steps.specs.declared.writable.WritableOperation.{WritableOperation}
-use Rattle.ws_steps.specs.Calls.{begin, add_stream}
+use Rattle.ws_steps.specs.MakingCalls.{add_stream}
+use Rattle.ws_steps.specs.Calls.{begin}
 use Rattle.ws_steps.specs.Histories.{is_same}
 use Rattle.ws_steps.specs.Jobs.{job_begun, begin_job}
 use Rattle.ws_steps.specs.Operations.{readable_operation, byte_readable_operation, byte_operation, writable_operation, pipe_operation}
@@ -29,7 +30,7 @@ use Rattle.ws_steps.specs.Writable.{update_backpressure, refresh_backpressure, r
 use Rattle.ws_laws.proofs.Begin.{begin-makes}
 use Rattle.ws_laws.proofs.Lists.{Each, each-append, each-map}
 use Rattle.ws_laws.proofs.PipeDoes.{PipeCauses, pipe-causes}
-use Rattle.ws_laws.proofs.Rows.{IsApart, IsNoPipe, row-pipes, row-streams, row-locks}
+use Rattle.ws_laws.proofs.Apart.{IsApart, IsNoPipe, row-pipes, row-streams, row-locks}
 use Rattle.ws_laws.proofs.Tables.{readable_acts, byte_acts, writable_acts, same_id, readable_there, byte_there, writable_there, on_readable-same, on_byte-same, on_byte-other, on_byte-writable, on_source-readable, on_source-byte, on_source-other, on_source-writable, on_writable-same, on_writable-other, on_writable-look, on_writable-source}
 use Rattle.ws_laws.proofs.Truth.{and_left, and_right}
 use Rattle.ws_room_laws.proofs.Turns.{performed-kept}

@@ -8,8 +8,10 @@ use Rattle.ws_steps.specs.declared.effects.Effect.TheVariants.{Pipe as OnPipe, S
 use Rattle.ws_steps.specs.declared.pipes.Prevent.{Prevent}
 use Rattle.ws_steps.specs.Bytes as byte
 use Rattle.ws_steps.specs.Bytes.{shown}
-use Rattle.ws_steps.specs.Calls as calls
-use Rattle.ws_steps.specs.Calls.{Begun, begin, named}
+use Rattle.ws_steps.specs.MakingCalls as making_calls
+use Rattle.ws_steps.specs.PipeCalls as pipe_calls
+use Rattle.ws_steps.specs.Begun.{Begun}
+use Rattle.ws_steps.specs.Calls.{begin, named}
 use Rattle.ws_steps.specs.Histories.{is_same}
 use Rattle.ws_steps.specs.Pipes as pipe
 use Rattle.ws_steps.specs.Promises.{next_id, fresh}
@@ -22,7 +24,7 @@ use Rattle.ws_steps.specs.Writable as writable
 use Rattle.ws_steps.specs.WritableHistory.{Writes}
 use Rattle.ws_laws.proofs.Halves.{Halved, run-halved, halved-empty}
 use Rattle.ws_laws.proofs.Lists.{Each, each-append}
-use Rattle.ws_laws.proofs.Rows.{row-pipes}
+use Rattle.ws_laws.proofs.Apart.{row-pipes}
 use Rattle.ws_steps.specs.Operations.{pipe_operation}
 use Rattle.ws_steps.specs.declared.transform.TransformId.{TransformId}
 use Rattle.ws_transform_laws.proofs.Lawful.{shape_writable, writable-told}
@@ -114,7 +116,7 @@ module _ (s : Slots) (f : Fresh s) where
   abbrev P : Begun → Type 0
   P b = Fresh b.done.slots × Each Plain b.done.caused
 
-  starts : (x : StartBy) → Each Plain (calls.start_transform (next_id (fresh s.promises)) (record { 0 = length s.streams + 1 }) x ∷ [])
+  starts : (x : StartBy) → Each Plain (making_calls.start_transform (next_id (fresh s.promises)) (record { 0 = length s.streams + 1 }) x ∷ [])
   starts Now = (tt, tt)
   starts Later = (tt, tt)
 
@@ -288,7 +290,7 @@ performed-count d = performed-kept (λ ms s es. length s.pipes ≡ length d.slot
 
 pipe-count : (i j : StreamId) (prevent : Prevent) (s : Slots) → IsAnyFree i j s → length (after_call (Pipe i j prevent None) s).pipes ≡ suc (length s.pipes)
 pipe-count i j prevent s f =
-    let b : Begun = calls.pipe_to i j prevent None s in
+    let b : Begun = pipe_calls.pipe_to i j prevent None s in
     subst (λ (x : Begun). length (older (named x.reply (performed x.done))).pipes ≡ suc (length s.pipes)) (sym (is_begun i j prevent None s f tt))
     (performed-count b.done ∙ length-last s.pipes _)
 

@@ -23,7 +23,8 @@ use Rattle.ws_steps.specs.WritableHistory.{writes_then, effect_writes, first_chu
 use Rattle.ws_flow.specs.Told.{Open, Told, told, then_told, IsShortOf}
 use Rattle.ws_flow.proofs.Told.{then_empty, short_refl}
 use Rattle.ws_laws.proofs.Lists.{Each, each-append}
-use Rattle.ws_laws.proofs.Rows.{row-causes, row-pipes}
+use Rattle.ws_laws.proofs.Apart.{row-pipes}
+use Rattle.ws_laws.proofs.Causes.{row-causes}
 use Rattle.ws_laws.proofs.Tables.{is_same-refl, same_id, writable_acts, on_writable-same, on_writable-other, on_writable-source, on_writable-look}
 use Rattle.ws_laws.proofs.WritableDoes.{IsHandOn}
 use Rattle.ws_pipe_laws.proofs.AtSource.{off-only, row-off}

@@ -20,7 +20,7 @@ use Rattle.ws_steps.specs.Turns.{row, performed, moments}
 use Rattle.ws_flow.specs.Told.{Told, then_told, IsShortOf}
 use Rattle.ws_flow.proofs.Told.{then_assoc, then_empty, short_refl, short_trans, short_same, short_as, short_left, short_right}
 use Rattle.ws_laws.proofs.Lists.{Each, each-map}
-use Rattle.ws_laws.proofs.Rows.{row-locks}
+use Rattle.ws_laws.proofs.Apart.{row-locks}
 use Rattle.ws_laws.proofs.Tables.{writable_there}
 use Rattle.ws_laws.proofs.Walker.{IsHistory, performed-goes, nothing-told}
 use Rattle.ws_pipe_laws.proofs.AtSource.{all_off}

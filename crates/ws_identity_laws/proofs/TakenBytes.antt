@@ -10,8 +10,10 @@ use Rattle.ws_steps.specs.declared.promises.Job.{Job}
 use Rattle.ws_steps.specs.declared.readable.{ReadRequest.TheVariants.{Promise, Pipe as PipeRequest, Tee as TeeRequest}, ReadableOperation.{ReadableOperation}, ReadableOperation.TheVariants.{Enqueue}}
 use Rattle.ws_steps.specs.declared.transform.TransformId.{TransformId}
 use Rattle.ws_steps.specs.Bytes as byte
-use Rattle.ws_steps.specs.Calls as calls
-use Rattle.ws_steps.specs.Calls.{Begun, begin, unsupported}
+use Rattle.ws_steps.specs.Begun as replying
+use Rattle.ws_steps.specs.ControllerCalls as controller_calls
+use Rattle.ws_steps.specs.Begun.{Begun, unsupported}
+use Rattle.ws_steps.specs.Calls.{begin}
 use Rattle.ws_steps.specs.Histories.{is_same, in_step, over}
 use Rattle.ws_steps.specs.Jobs.{job_effects, job_begun, begin_job}
 use Rattle.ws_steps.specs.Promises.{next_job}
@@ -25,7 +27,7 @@ use Rattle.ws_steps.specs.Turns.{row}
 use Rattle.ws_laws.proofs.EachCall.{each_call}
 use Rattle.ws_laws.proofs.Lists.{Each, each-append, each-map}
 use Rattle.ws_laws.proofs.PipeDoes.{PipeCauses}
-use Rattle.ws_laws.proofs.Rows.{Causes, row-causes}
+use Rattle.ws_laws.proofs.Causes.{Causes, row-causes}
 use Rattle.ws_laws.proofs.StaysBytes.{row-byte, begin-byte, run-byte}
 use Rattle.ws_laws.proofs.Tables.{either, same_id, is_same-refl, byte_there}
 use Rattle.ws_laws.proofs.TransformDoes.{TransformCauses}
@@ -225,10 +227,10 @@ module _ (i : StreamId) where
   put-calm c none (OnByte j operation) p = refl
   put-calm c none _ p = refl
 
-  bytes-start : (s : Slots) (j : StreamId) (v : Value) → has_byte j s ≡ true → Starts (calls.enqueue_bytes j s v) (accepted_by i (EnqueueCall j v) (calls.enqueue_bytes j s v).reply)
+  bytes-start : (s : Slots) (j : StreamId) (v : Value) → has_byte j s ≡ true → Starts (controller_calls.enqueue_bytes j s v) (accepted_by i (EnqueueCall j v) (controller_calls.enqueue_bytes j s v).reply)
   bytes-start s j (PlainValue v) is = (tt, refl)
   bytes-start s j (Bytes b) is =
-      either (λ (x : Begun). Starts x (accepted_by i (EnqueueCall j (Bytes b)) x.reply)) (not (is_empty b) && byte.can_take (byte_at j s)) (calls.does (OnByte j (EnqueueBytes b) ∷ []) s) (calls.throws_type_error s)
+      either (λ (x : Begun). Starts x (accepted_by i (EnqueueCall j (Bytes b)) x.reply)) (not (is_empty b) && byte.can_take (byte_at j s)) (replying.does (OnByte j (EnqueueBytes b) ∷ []) s) (replying.throws_type_error s)
       (λ can. ((λ same. (left (is_empty b) _ can, opened same (right (not (is_empty b)) _ can)), tt), sym (append-nil (if is_same i j then Bytes b ∷ [] else [])))) (λ cannot. (tt, refl))
     where
       left : (a b : Bool) → not a && b ≡ true → a ≡ false
@@ -246,21 +248,21 @@ module _ (i : StreamId) where
   abbrev Elsewhere : StreamId → Value → Begun → Type 0
   Elsewhere j v b = Each Calm b.done.caused × (accepted_by i (EnqueueCall j v) b.reply ≡ [])
 
-  owner-none : (s : Slots) (j : StreamId) (v : Value) (owner : Owner) → is_same i j ≡ false → Elsewhere j v (calls.enqueue_by v j s owner)
-  owner-none s j v Host n = either (Elsewhere j v) (can_close_or_enqueue (readable_at j s)) (calls.does (OnReadable j (Enqueue v) ∷ []) s) (calls.throws_type_error s) (λ can. ((refl, tt), rw n refl)) (λ cannot. (tt, refl))
-  owner-none s j v (HalfOf u) n = either (Elsewhere j v) (can_close_or_enqueue (readable_at j s)) (calls.does (OnTransform u (EnqueueByTransform v) ∷ []) s) (calls.throws_type_error s) (λ can. ((refl, tt), rw n refl)) (λ cannot. (tt, refl))
+  owner-none : (s : Slots) (j : StreamId) (v : Value) (owner : Owner) → is_same i j ≡ false → Elsewhere j v (controller_calls.enqueue_by v j s owner)
+  owner-none s j v Host n = either (Elsewhere j v) (can_close_or_enqueue (readable_at j s)) (replying.does (OnReadable j (Enqueue v) ∷ []) s) (replying.throws_type_error s) (λ can. ((refl, tt), rw n refl)) (λ cannot. (tt, refl))
+  owner-none s j v (HalfOf u) n = either (Elsewhere j v) (can_close_or_enqueue (readable_at j s)) (replying.does (OnTransform u (EnqueueByTransform v) ∷ []) s) (replying.throws_type_error s) (λ can. ((refl, tt), rw n refl)) (λ cannot. (tt, refl))
   owner-none s j v (BranchOf u half) n = (tt, refl)
   owner-none s j v (EndOf c) n = (tt, refl)
 
-  other-start : (s : Slots) (j : StreamId) (v : Value) → is_same i j ≡ false → let b : Begun = calls.for_readable j (calls.enqueue v j) s in Starts b (accepted_by i (EnqueueCall j v) b.reply)
+  other-start : (s : Slots) (j : StreamId) (v : Value) → is_same i j ≡ false → let b : Begun = replying.for_readable j (controller_calls.enqueue v j) s in Starts b (accepted_by i (EnqueueCall j v) b.reply)
   other-start s j v n =
-      either (λ (b : Begun). Starts b (accepted_by i (EnqueueCall j v) b.reply)) (has_readable j s) (calls.enqueue v j s) (unsupported s)
-      (λ there. let k = owner-none s j v (readable_at j s).owner n in (enters-calm (calls.enqueue v j s).done.slots _ k.0, k.1 ∙ sym (calm-puts _ k.0))) (λ absent. (tt, refl))
+      either (λ (b : Begun). Starts b (accepted_by i (EnqueueCall j v) b.reply)) (has_readable j s) (controller_calls.enqueue v j s) (unsupported s)
+      (λ there. let k = owner-none s j v (readable_at j s).owner n in (enters-calm (controller_calls.enqueue v j s).done.slots _ k.0, k.1 ∙ sym (calm-puts _ k.0))) (λ absent. (tt, refl))
 
   call-starts : (c : Call) (s : Slots) → has_byte i s ≡ true → Starts (begin c s) (accepted_by i c (begin c s).reply)
   unfolding begin
   call-starts (EnqueueCall j v) s is =
-      either (λ (b : Begun). Starts b (accepted_by i (EnqueueCall j v) b.reply)) (has_byte j s) (calls.enqueue_bytes j s v) (calls.for_readable j (calls.enqueue v j) s)
+      either (λ (b : Begun). Starts b (accepted_by i (EnqueueCall j v) b.reply)) (has_byte j s) (controller_calls.enqueue_bytes j s v) (replying.for_readable j (controller_calls.enqueue v j) s)
       (λ there. bytes-start s j v there) (λ isnt. other-start s j v (apart isnt))
     where
       apart : has_byte j s ≡ false → is_same i j ≡ false

@@ -15,7 +15,7 @@ use Rattle.ws_steps.specs.Readable.{can_close_or_enqueue}
 use Rattle.ws_steps.specs.Slots.{Slots, Stream, ReadableStream, ByteStream, WritableStream, Done, has_readable, has_byte, owner_at, readable_at, byte_at, source_at, as_source, is_readable_stream, is_byte_stream, on_readable, on_byte}
 use Rattle.ws_steps.specs.Turns.{row, on_source}
 use Rattle.ws_flow.specs.Told.{Open, Closed, Told}
-use Rattle.ws_laws.proofs.Rows.{row-streams}
+use Rattle.ws_laws.proofs.Apart.{row-streams}
 use Rattle.ws_laws.proofs.Tables.{either, same_id, is_same-refl, readable_acts, byte_acts, readable_there, byte_there, on_readable-same, on_byte-same, on_byte-other, on_source-other, on_source-byte, on_source-readable, on_writable-source}
 use Rattle.ws_transform_laws.proofs.Sources.{source-default}
 use Rattle.ws_transform_laws.proofs.Wanting.{operation-shut}

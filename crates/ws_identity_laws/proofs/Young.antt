@@ -13,8 +13,12 @@ use Rattle.ws_steps.specs.declared.writable.{WritableOperation.{WritableOperatio
 use Rattle.ws_steps.specs.declared.writable.WritableOperation.TheVariants as writes
 use Rattle.ws_steps.specs.Bytes as byte
 use Rattle.ws_steps.specs.Bytes.{shown}
-use Rattle.ws_steps.specs.Calls as calls
-use Rattle.ws_steps.specs.Calls.{Begun, begin, named, add_stream}
+use Rattle.ws_steps.specs.Begun as replying
+use Rattle.ws_steps.specs.MakingCalls as making_calls
+use Rattle.ws_steps.specs.PipeCalls as pipe_calls
+use Rattle.ws_steps.specs.Begun.{Begun}
+use Rattle.ws_steps.specs.MakingCalls.{add_stream}
+use Rattle.ws_steps.specs.Calls.{begin, named}
 use Rattle.ws_steps.specs.Effects.{Out}
 use Rattle.ws_steps.specs.Histories.{is_same, along}
 use Rattle.ws_steps.specs.Operations.{readable_operation, byte_readable_operation, writable_operation}
@@ -220,17 +224,17 @@ module _ (s : Slots) (y : Young s) where
   abbrev P : Begun → Type 0
   P b = Young b.done.slots × Each Mild b.done.caused
 
-  rejected : P (calls.rejected s)
+  rejected : P (replying.rejected s)
   rejected = (record { streams = y.streams; pipes = y.pipes }, (tt, tt))
 
-  starts : (x : StartBy) → Each Mild (calls.start_transform (next_id (fresh s.promises)) (record { 0 = length s.streams + 1 }) x ∷ [])
+  starts : (x : StartBy) → Each Mild (making_calls.start_transform (next_id (fresh s.promises)) (record { 0 = length s.streams + 1 }) x ∷ [])
   starts Now = (tt, tt)
   starts Later = (tt, tt)
 
-  pipe_unlocked : (source dest : StreamId) (prevent : Prevent) → P (calls.pipe_unlocked source dest prevent None s)
+  pipe_unlocked : (source dest : StreamId) (prevent : Prevent) → P (pipe_calls.pipe_unlocked source dest prevent None s)
   pipe_unlocked source dest prevent =
-      either P (readable_looks.is_locked (source_at source s)) (calls.rejected s) _ (λ e. rejected)
-      (λ e. either P (writable_looks.is_locked (writable_at dest s)) (calls.rejected s) (calls.pipe_to source dest prevent None s) (λ f. rejected)
+      either P (readable_looks.is_locked (source_at source s)) (replying.rejected s) _ (λ e. rejected)
+      (λ e. either P (writable_looks.is_locked (writable_at dest s)) (replying.rejected s) (pipe_calls.pipe_to source dest prevent None s) (λ f. rejected)
       (λ f. (record { streams = y.streams; pipes = all-last YoungPipe s.pipes _ y.pipes (record { phase = refl; held = refl }) }, (tt, (tt, (tt, (tt, (tt, (tt, tt)))))))))
 
   call-young : (c : Call) → opens c ≡ true → P (begin c s)

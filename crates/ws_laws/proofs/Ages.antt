@@ -24,7 +24,7 @@ use Rattle.ws_steps.specs.Calls.{begin, named}
 use Rattle.ws_steps.specs.Run.{Called, Worked, step, run, after_call, after_job, performed_in}
 use Rattle.ws_steps.specs.Laws.{EachAgeCounts}
 use Rattle.ws_laws.proofs.Tables.{either}
-use Rattle.ws_laws.proofs.Rows.{byte-leaves, source-leaves}
+use Rattle.ws_laws.proofs.Apart.{byte-leaves, source-leaves}
 use Rattle.ws_laws.proofs.Begin.{begin-makes}
 use Rattle.ws_laws.proofs.Walker.{untold, performed-goes}
 

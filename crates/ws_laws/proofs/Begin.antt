@@ -20,7 +20,11 @@ use Rattle.ws_steps.specs.declared.port.Side.TheVariants.{Readable as ReadableSi
 use Rattle.ws_steps.specs.Writable as writable
 use Rattle.ws_steps.specs.Slots.{Slots, ReadableStream, ByteStream, WritableStream, with_promises, source_at}
 use Rattle.ws_steps.specs.Jobs.{job_effects}
-use Rattle.ws_steps.specs.Calls.{Begun, begin, add_stream, add_port, pipe_to, no_prevent, with_renewed}
+use Rattle.ws_steps.specs.Begun.{Begun}
+use Rattle.ws_steps.specs.MakingCalls.{add_stream}
+use Rattle.ws_steps.specs.LockCalls.{with_renewed}
+use Rattle.ws_steps.specs.PipeCalls.{add_port, pipe_to, no_prevent}
+use Rattle.ws_steps.specs.Calls.{begin}
 use Rattle.ws_steps.specs.declared.{calls.HostCall.TheVariants.{Start as HostStart}, effects.Owner.{Owner}, transform.Kind.{Kind}, transform.TransformOperation.TheVariants.{Enqueue as EnqueueByTransform, TransformChunk}}
 use Rattle.ws_laws.proofs.EachCall.{each_call}
 use Rattle.ws_laws.proofs.Lists.{Each, each-map}

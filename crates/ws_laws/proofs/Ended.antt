@@ -21,12 +21,14 @@ use Rattle.ws_steps.specs.Writable as writable
 use Rattle.ws_steps.specs.Slots.{Slots, Stream, ReadableStream, ByteStream, WritableStream, empty, found, on_port_at, clones_at}
 use Rattle.ws_steps.specs.Turns.{row}
 use Rattle.ws_steps.specs.Run.{Entry, run}
-use Rattle.ws_steps.specs.Calls.{Begun, begin}
-use Rattle.ws_steps.specs.Calls as calls
+use Rattle.ws_steps.specs.Begun.{Begun}
+use Rattle.ws_steps.specs.Calls.{begin}
+use Rattle.ws_steps.specs.MakingCalls as making_calls
+use Rattle.ws_steps.specs.PipeCalls as pipe_calls
 use Rattle.ws_laws.proofs.EachCall.{each_call}
 use Rattle.ws_laws.proofs.Halves.{get-stays, get-last, get-either}
 use Rattle.ws_laws.proofs.PortDoes.{port-causes}
-use Rattle.ws_laws.proofs.Rows.{row-ports}
+use Rattle.ws_laws.proofs.Apart.{row-ports}
 use Rattle.ws_laws.proofs.Shapes.{StreamShape, ReadableOf, BytesOf, WritableOf, stream_shape, stream_shapes, row-stream_shapes}
 use Rattle.ws_laws.proofs.Walker.{Stays, run-stays}
 
@@ -95,7 +97,7 @@ other-made y n xs ps a = record {
   ends = λ c x is. get-stays xs (y ∷ []) x.stream.0 _ (a.ends c x is);
 }
 
-stream-made : (y : Stream) (s : Slots) → IsNoEnd (stream_shape y) → Ended s → Ended (calls.add_stream y s)
+stream-made : (y : Stream) (s : Slots) → IsNoEnd (stream_shape y) → Ended s → Ended (making_calls.add_stream y s)
 stream-made y s n h = rw (map-append stream_shape s.streams (y ∷ [])) (other-made (stream_shape y) n (stream_shapes s) (port_shapes s) h)
 
 -- and a port with its stream
@@ -136,16 +138,16 @@ module _ (xs : List StreamShape) (ps : List PortShape) (a : AreEnds xs ps) (me :
     ends = λ c x is. ⊎_elim (λ old. get-stays xs (end_shape me side ∷ []) x.stream.0 _ (a.ends c x old)) (λ new. new-port c x new.0 new.1) (get-either ps New c.0 x is);
   }
 
-port-made : (side : Side) (s : Slots) → Ended s → Ended (calls.add_port (record { 0 = length s.streams }) s side)
+port-made : (side : Side) (s : Slots) → Ended s → Ended (pipe_calls.add_port (record { 0 = length s.streams }) s side)
 port-made ReadableSide s h =
     let me : PortId = record { 0 = length s.ports } in
     let i : StreamId = record { 0 = length s.streams } in
-    rw (map-append stream_shape s.streams (calls.end_of me ReadableSide ∷ []), map-append port_shape s.ports (cross.set_up ReadableSide i None ∷ []))
+    rw (map-append stream_shape s.streams (pipe_calls.end_of me ReadableSide ∷ []), map-append port_shape s.ports (cross.set_up ReadableSide i None ∷ []))
     (made-end (stream_shapes s) (port_shapes s) h me i ReadableSide (sym (length-map port_shape s.ports)) (sym (length-map stream_shape s.streams)))
 port-made WritableSide s h =
     let me : PortId = record { 0 = length s.ports } in
     let i : StreamId = record { 0 = length s.streams } in
-    rw (map-append stream_shape s.streams (calls.end_of me WritableSide ∷ []), map-append port_shape s.ports (cross.set_up WritableSide i (Some (next_id s.promises)) ∷ []))
+    rw (map-append stream_shape s.streams (pipe_calls.end_of me WritableSide ∷ []), map-append port_shape s.ports (cross.set_up WritableSide i (Some (next_id s.promises)) ∷ []))
     (made-end (stream_shapes s) (port_shapes s) h me i WritableSide (sym (length-map port_shape s.ports)) (sym (length-map stream_shape s.streams)))
 
 no-end : (y : StreamShape) → (y ≡ ReadableOf Host) ⊎ ((y ≡ WritableOf Host) ⊎ (y ≡ BytesOf)) → IsNoEnd y
@@ -173,11 +175,11 @@ call-ended c s h = each_call (λ (b : Begun). Ended b.done.slots) c s (record {
   make_transform = λ kind m n start.
       let w : Stream = WritableStream (writable.set_up (HalfOf (record { 0 = length s.transforms })) m Count) in
       let r : Stream = ReadableStream (readable.set_up (HalfOf (record { 0 = length s.transforms })) n Count) in
-      stream-made r (calls.add_stream w s) (other-owner r (λ c e. cc) (λ c e. cc)) (stream-made w s (other-owner w (λ c e. cc) (λ c e. cc)) h);
+      stream-made r (making_calls.add_stream w s) (other-owner r (λ c e. cc) (λ c e. cc)) (stream-made w s (other-owner w (λ c e. cc) (λ c e. cc)) h);
   make_tee = λ i e is free untied.
       let x : Stream = ReadableStream (readable.set_up (BranchOf (record { 0 = length s.tees }) First) 1 Count) in
       let y : Stream = ReadableStream (readable.set_up (BranchOf (record { 0 = length s.tees }) Second) 1 Count) in
-      stream-made y (calls.add_stream x s) (other-owner y (λ c e. cc) (λ c e. cc)) (stream-made x s (other-owner x (λ c e. cc) (λ c e. cc)) h);
+      stream-made y (making_calls.add_stream x s) (other-owner y (λ c e. cc) (λ c e. cc)) (stream-made x s (other-owner x (λ c e. cc) (λ c e. cc)) h);
   get_reader = λ i e. h;
   get_writer = λ i e. h;
   release_reader = λ l closed i e. h;

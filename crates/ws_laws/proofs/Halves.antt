@@ -25,8 +25,10 @@ use Rattle.ws_steps.specs.Slots.{Slots, Stream, ReadableStream, ByteStream, Writ
 use Rattle.ws_steps.specs.Turns.{row, performed}
 use Rattle.ws_steps.specs.Jobs.{job_begun, begin_job}
 use Rattle.ws_steps.specs.Run.{Entry, Called, Worked, Heard, begun_by, step, run}
-use Rattle.ws_steps.specs.Calls.{Begun, begin, named}
-use Rattle.ws_steps.specs.Calls as calls
+use Rattle.ws_steps.specs.Begun.{Begun}
+use Rattle.ws_steps.specs.Calls.{begin, named}
+use Rattle.ws_steps.specs.MakingCalls as making_calls
+use Rattle.ws_steps.specs.PipeCalls as pipe_calls
 use Rattle.ws_laws.proofs.EachCall.{each_call}
 use Rattle.ws_laws.proofs.Shapes.{StreamShape, ReadableOf, BytesOf, WritableOf, TransformShape, TeeShape, branch_of, stream_shape, transform_shape, tee_shape, stream_shapes, transform_shapes, tee_shapes, row-stream_shapes, row-transform_shapes, row-tee_shapes}
 use Rattle.ws_laws.proofs.Walker.{Stays, untold, performed-goes, run-stays}
@@ -277,7 +279,7 @@ halved-from : (s z : Slots) → stream_shapes z ≡ stream_shapes s → transfor
 halved-from s z e f g h = rw (e, f, g) h
 
 transform-made : (kind : Kind) (m n : ℕ) (start : StartBy) (s : Slots) → Halved s
-    → Halved (calls.make_transform kind m n start (record { 0 = length s.streams }) (record { 0 = length s.streams + 1 }) s).done.slots
+    → Halved (making_calls.make_transform kind m n start (record { 0 = length s.streams }) (record { 0 = length s.streams + 1 }) s).done.slots
 transform-made kind m n start s h =
     let me : TransformId = record { 0 = length s.transforms } in
     let w : Stream = WritableStream (writable.set_up (HalfOf me) m Count) in
@@ -289,7 +291,7 @@ transform-made kind m n start s h =
     (made-transform xs (transform_shapes s) (tee_shapes s) h (transform_shape x) me (sym (length-map transform_shape s.transforms)) (sym same)
     (ap (λ k. k + 1) (sym same) ∙ sym (one-more xs (WritableOf (HalfOf me)))))
 
-tee-made : (i : StreamId) (s : Slots) → Halved s → Halved (calls.make_tee i (record { 0 = length s.streams }) (record { 0 = length s.streams + 1 }) s).done.slots
+tee-made : (i : StreamId) (s : Slots) → Halved s → Halved (making_calls.make_tee i (record { 0 = length s.streams }) (record { 0 = length s.streams + 1 }) s).done.slots
 tee-made i s h =
     let me : TeeId = record { 0 = length s.tees } in
     let first : Stream = ReadableStream (readable.set_up (BranchOf me First) 1 Count) in
@@ -301,13 +303,13 @@ tee-made i s h =
     (made-tee xs (transform_shapes s) (tee_shapes s) h (tee_shape x) me (sym (length-map tee_shape s.tees)) (sym same)
     (ap (λ k. k + 1) (sym same) ∙ sym (one-more xs (ReadableOf (BranchOf me First)))))
 
-port-halved : (side : Side) (i : StreamId) (s : Slots) → Halved s → Halved (calls.add_port i s side)
+port-halved : (side : Side) (i : StreamId) (s : Slots) → Halved s → Halved (pipe_calls.add_port i s side)
 port-halved ReadableSide i s h =
     let me : PortId = record { 0 = length s.ports } in
-    rw (map-append stream_shape s.streams (calls.end_of me ReadableSide ∷ [])) (end-readable me (stream_shapes s) (transform_shapes s) (tee_shapes s) h)
+    rw (map-append stream_shape s.streams (pipe_calls.end_of me ReadableSide ∷ [])) (end-readable me (stream_shapes s) (transform_shapes s) (tee_shapes s) h)
 port-halved WritableSide i s h =
     let me : PortId = record { 0 = length s.ports } in
-    rw (map-append stream_shape s.streams (calls.end_of me WritableSide ∷ [])) (end-writable me (stream_shapes s) (transform_shapes s) (tee_shapes s) h)
+    rw (map-append stream_shape s.streams (pipe_calls.end_of me WritableSide ∷ [])) (end-writable me (stream_shapes s) (transform_shapes s) (tee_shapes s) h)
 
 call-halved : (c : Call) (s : Slots) → Halved s → Halved (begin c s).done.slots
 call-halved c s h = each_call (λ (b : Begun). Halved b.done.slots) c s (record {
@@ -373,7 +375,7 @@ halved-empty = record { readable = λ i t is. cc; writable = λ i t is. cc; halv
 abbrev pub Among : List TransformShape → List TransformShape → Type 0
 Among ts us = (t : TransformId) (x : TransformShape) → slice_get ts t.0 ≡ Some x → slice_get us t.0 ≡ Some x
 
-among-port : (s : Slots) (side : Side) (i : StreamId) → Among (transform_shapes s) (transform_shapes (calls.add_port i s side))
+among-port : (s : Slots) (side : Side) (i : StreamId) → Among (transform_shapes s) (transform_shapes (pipe_calls.add_port i s side))
 among-port s ReadableSide i t x h = h
 among-port s WritableSide i t x h = h
 
@@ -455,7 +457,7 @@ run-among (x ∷ xs) s = λ t y h. run-among xs (step s x) t y (step-among x s t
 abbrev pub AmongTees : List TeeShape → List TeeShape → Type 0
 AmongTees ts us = (t : TeeId) (x : TeeShape) → slice_get ts t.0 ≡ Some x → slice_get us t.0 ≡ Some x
 
-among-port_tees : (s : Slots) (side : Side) (i : StreamId) → AmongTees (tee_shapes s) (tee_shapes (calls.add_port i s side))
+among-port_tees : (s : Slots) (side : Side) (i : StreamId) → AmongTees (tee_shapes s) (tee_shapes (pipe_calls.add_port i s side))
 among-port_tees s ReadableSide i t x h = h
 among-port_tees s WritableSide i t x h = h
 

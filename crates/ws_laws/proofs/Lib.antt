@@ -14,10 +14,13 @@ pub mod TransformDoes
 pub mod TeeDoes
 pub mod PortDoes
 pub mod Rows
+pub mod Apart
+pub mod Causes
 pub mod EachCall
 pub mod Begin
 pub mod Walker
 pub mod OnReadable
+pub mod Branches
 pub mod Order
 pub mod Shapes
 pub mod StaysBytes

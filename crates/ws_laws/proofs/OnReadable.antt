@@ -28,7 +28,8 @@ use Rattle.ws_steps.specs.Run.{Entry, step, run, after_event}
 use Rattle.ws_steps.specs.Histories.{is_same, in_step, over}
 use Rattle.ws_laws.proofs.Tables.{same_id, eq_numbers, unequal_numbers, readable_acts, on_readable-same, on_writable-there, on_writable-readable, on_writable-byte, on_source-byte, on_source-readable, on_source-other, on_byte-same, on_byte-other, no_readable_there, no_stream, place_last, place_before}
 use Rattle.ws_laws.proofs.Lists.{Each}
-use Rattle.ws_laws.proofs.Rows.{Causes, ChunkCauses, EndCauses, ErrorCauses, IsNoPipe, IsNoTee, row-causes, row-locks, row-pipes, row-tees, row-streams}
+use Rattle.ws_laws.proofs.Apart.{IsNoPipe, IsNoTee, row-locks, row-pipes, row-tees, row-streams}
+use Rattle.ws_laws.proofs.Causes.{Causes, ChunkCauses, EndCauses, ErrorCauses, row-causes}
 use Rattle.ws_laws.proofs.Begin.{begin-makes}
 use Rattle.ws_laws.proofs.Walker.{IsHistory, GoesUntold, RestsUntold, Stays, step-goes_untold, run-holds}
 use Rattle.ws_value.specs.declared.ids.PortId.{PortId}

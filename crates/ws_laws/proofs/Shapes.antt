@@ -39,7 +39,7 @@ use Rattle.ws_steps.specs.Writable as writable
 use Rattle.ws_steps.specs.Slots.{Slots, Stream, ReadableStream, ByteStream, WritableStream, Done, on_readable, on_byte, has_byte, byte_at, put_byte, found, halves_at, on_pipe_at, on_signal_at, on_transform_at, on_tee_at, on_port_at, has_readable, has_writable, readable_at, writable_at, nothing, owner_of, owner_at, put_readable, put_writable}
 use Rattle.ws_steps.specs.Turns.{row, call_host}
 use Rattle.ws_laws.proofs.Tables.{either, readable_acts, byte_acts, writable_acts, readable_there, byte_there, writable_there}
-use Rattle.ws_laws.proofs.Rows.{row-streams, row-tees, byte-leaves, source-leaves}
+use Rattle.ws_laws.proofs.Apart.{row-streams, row-tees, byte-leaves, source-leaves}
 use Rattle.ws_laws.proofs.TransformDoes.{transform-causes}
 use Rattle.ws_laws.proofs.TeeDoes.{tee-causes}
 

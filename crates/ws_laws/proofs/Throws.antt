@@ -4,7 +4,9 @@ use Rattle.ws_value.specs.declared.ids.StreamId.{StreamId}
 use Rattle.ws_steps.specs.declared.{calls.Call.{Call}, calls.Call.TheVariants.{Finish}, calls.Reply.{Reply}, calls.Reply.TheVariants.{Done as ReplyDone, Throws}, effects.Effect.TheVariants.{Readable}, readable.ReadableOperation.TheVariants.{Close}, calls.Thrown.{Thrown}}
 use Rattle.ws_steps.specs.Slots.{Slots, Done, nothing, causes, byte_at}
 use Rattle.ws_steps.specs.Turns.{performed}
-use Rattle.ws_steps.specs.Calls.{Begun, begin, begun, close_reply, named}
+use Rattle.ws_steps.specs.Begun.{Begun, begun}
+use Rattle.ws_steps.specs.ControllerCalls.{close_reply}
+use Rattle.ws_steps.specs.Calls.{begin, named}
 use Rattle.ws_steps.specs.Run.{older}
 use Rattle.ws_steps.specs.Laws.{errs, EachThrowChangesNothing}
 use Rattle.ws_room_laws.proofs.Turns.{performed_none}

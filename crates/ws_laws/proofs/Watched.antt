@@ -6,7 +6,8 @@ use Rattle.ws_value.specs.declared.value.Outcome.{Outcome}
 use Rattle.ws_value.specs.declared.value.Plain.{Plain}
 use Rattle.ws_steps.specs.declared.{calls.Call.{Call}, calls.Event.{Event}, calls.Reply.{Reply}, calls.Reply.TheVariants.{Promise as Named}, effects.Effect.{Effect}}
 use Rattle.ws_steps.specs.declared.{promises.Job.{Job}, promises.Job.TheVariants.{Reaction as ReactionJob, Follow, Settle, Micro as MicroJob}, promises.Micro.{Micro}, promises.Reaction.{Reaction}, promises.Reaction.TheVariants.{Adopt}}
-use Rattle.ws_steps.specs.Calls.{Begun, begin, named, promising}
+use Rattle.ws_steps.specs.Begun.{Begun, promising}
+use Rattle.ws_steps.specs.Calls.{begin, named}
 use Rattle.ws_steps.specs.Jobs.{begin_job, job_begun}
 use Rattle.ws_steps.specs.Promises.{Entry, Table, pending, live, entry_at, rank_at, next_id, fresh, settle, answer, react, enqueue_job, job_of, follow, queue_micro, tell, went_astray, next_job, after_first, after_next_job, taken, watch, watch_at, watch_entry}
 use Rattle.ws_steps.specs.Run.{Called, Worked, Heard, Entry as Step, step, reply_to, after_call, is_named_by, names_in_step}

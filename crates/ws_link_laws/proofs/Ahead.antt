@@ -30,7 +30,7 @@ use Rattle.ws_steps.specs.Writable.{hand_on_first, hand_on}
 use Rattle.ws_steps.specs.WritableHistory.{Writes, writes_then, effect_writes}
 use Rattle.ws_laws.proofs.Lists.{Each, each-append, each-map}
 use Rattle.ws_laws.proofs.PipeDoes.{PipeCauses}
-use Rattle.ws_laws.proofs.Rows.{row-causes}
+use Rattle.ws_laws.proofs.Causes.{row-causes}
 use Rattle.ws_laws.proofs.Tables.{either, eq_numbers, is_same-refl, same_id, writable_acts}
 use Rattle.ws_laws.proofs.TransformDoes.{TransformCauses, transform-causes}
 use Rattle.ws_writable_laws.proofs.Agenda.{Kept}

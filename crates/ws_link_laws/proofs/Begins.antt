@@ -10,8 +10,9 @@ use Rattle.ws_steps.specs.declared.locks.Lock.TheVariants.{Inner}
 use Rattle.ws_steps.specs.declared.pipes.Prevent.{Prevent}
 use Rattle.ws_steps.specs.declared.writable.WritableState.{WritableState}
 use Rattle.ws_steps.specs.declared.writable.WritableState.TheVariants.{Writable, Erroring, Errored, Closed}
-use Rattle.ws_steps.specs.Calls as calls
-use Rattle.ws_steps.specs.Calls.{Begun, begin, named}
+use Rattle.ws_steps.specs.PipeCalls as pipe_calls
+use Rattle.ws_steps.specs.Begun.{Begun}
+use Rattle.ws_steps.specs.Calls.{begin, named}
 use Rattle.ws_steps.specs.Histories.{is_same}
 use Rattle.ws_steps.specs.Pipes as pipe
 use Rattle.ws_steps.specs.Promises.{Table, next_id, fresh}
@@ -88,7 +89,7 @@ module _ (i j : StreamId) (prevent : Prevent) (signal : Option SignalId) (s : Sl
   p = record { 0 = length s.pipes }
 
   abbrev pub b : Begun
-  b = calls.pipe_to i j prevent signal s
+  b = pipe_calls.pipe_to i j prevent signal s
 
   abbrev pub d : Done
   d = b.done
@@ -98,10 +99,10 @@ module _ (i j : StreamId) (prevent : Prevent) (signal : Option SignalId) (s : Sl
 
   -- the call begins so
 
-  unlocked : calls.pipe_unlocked i j prevent signal s ≡ b
+  unlocked : pipe_calls.pipe_unlocked i j prevent signal s ≡ b
   unlocked = rw (free.unread, free.unwritten) refl
 
-  signalled : (o : Option SignalId) → IsThere o s → calls.for_signal_where o (calls.pipe_unlocked i j prevent signal) s ≡ b
+  signalled : (o : Option SignalId) → IsThere o s → pipe_calls.for_signal_where o (pipe_calls.pipe_unlocked i j prevent signal) s ≡ b
   signalled None h = unlocked
   signalled (Some a) h = rw h unlocked
 
@@ -111,37 +112,37 @@ module _ (i j : StreamId) (prevent : Prevent) (signal : Option SignalId) (s : Sl
 
   -- what it begins with
 
-  begins-inner : (n : ℕ) (reason : Option Plain) (o : Option SignalId) → Each (IsInner i j p n) (calls.pipe_begins p (next_id s.promises) (next_id (fresh (fresh s.promises))) o reason)
+  begins-inner : (n : ℕ) (reason : Option Plain) (o : Option SignalId) → Each (IsInner i j p n) (pipe_calls.pipe_begins p (next_id s.promises) (next_id (fresh (fresh s.promises))) o reason)
   begins-inner n (Some r) o = (tt, tt)
   begins-inner n None None = (tt, (tt, (tt, tt)))
   begins-inner n None (Some g) = (tt, (tt, (tt, (tt, tt))))
 
-  begins-last : (reason : Option Plain) (o : Option SignalId) → Each (IsNotLast p) (calls.pipe_begins p (next_id s.promises) (next_id (fresh (fresh s.promises))) o reason)
+  begins-last : (reason : Option Plain) (o : Option SignalId) → Each (IsNotLast p) (pipe_calls.pipe_begins p (next_id s.promises) (next_id (fresh (fresh s.promises))) o reason)
   begins-last (Some r) o = (and_false (nat_eq p.0 p.0), tt)
   begins-last None None = (refl, (refl, (refl, tt)))
   begins-last None (Some g) = (refl, (refl, (refl, (refl, tt))))
 
-  begins-late : (w : Ear) (reason : Option Plain) (o : Option SignalId) → Each (IsLate w) (calls.pipe_begins p (next_id s.promises) (next_id (fresh (fresh s.promises))) o reason)
+  begins-late : (w : Ear) (reason : Option Plain) (o : Option SignalId) → Each (IsLate w) (pipe_calls.pipe_begins p (next_id s.promises) (next_id (fresh (fresh s.promises))) o reason)
   begins-late w (Some r) o = ((refl, refl), tt)
   begins-late w None None = ((refl, refl), ((refl, refl), ((refl, refl), tt)))
   begins-late w None (Some g) = ((refl, refl), ((refl, refl), ((refl, refl), ((refl, refl), tt))))
 
-  begins-placed : (w : Ear) (z : Slots) (reason : Option Plain) (o : Option SignalId) → Each (Placed j w z) (calls.pipe_begins p (next_id s.promises) (next_id (fresh (fresh s.promises))) o reason)
+  begins-placed : (w : Ear) (z : Slots) (reason : Option Plain) (o : Option SignalId) → Each (Placed j w z) (pipe_calls.pipe_begins p (next_id s.promises) (next_id (fresh (fresh s.promises))) o reason)
   begins-placed w z (Some r) o = (tt, tt)
   begins-placed w z None None = (tt, (tt, (tt, tt)))
   begins-placed w z None (Some g) = (tt, (tt, (tt, (tt, tt))))
 
-  begins-writes : (reason : Option Plain) (o : Option SignalId) → Each (IsSilent (writes j)) (calls.pipe_begins p (next_id s.promises) (next_id (fresh (fresh s.promises))) o reason)
+  begins-writes : (reason : Option Plain) (o : Option SignalId) → Each (IsSilent (writes j)) (pipe_calls.pipe_begins p (next_id s.promises) (next_id (fresh (fresh s.promises))) o reason)
   begins-writes (Some r) o = (refl, tt)
   begins-writes None None = (refl, (refl, (refl, tt)))
   begins-writes None (Some g) = (refl, (refl, (refl, (refl, tt))))
 
-  begins-chunks : (reason : Option Plain) (o : Option SignalId) → Each (IsSilent (chunks p)) (calls.pipe_begins p (next_id s.promises) (next_id (fresh (fresh s.promises))) o reason)
+  begins-chunks : (reason : Option Plain) (o : Option SignalId) → Each (IsSilent (chunks p)) (pipe_calls.pipe_begins p (next_id s.promises) (next_id (fresh (fresh s.promises))) o reason)
   begins-chunks (Some r) o = (refl, tt)
   begins-chunks None None = (refl, (refl, (refl, tt)))
   begins-chunks None (Some g) = (refl, (refl, (refl, (refl, tt))))
 
-  begins-coming : (reason : Option Plain) (o : Option SignalId) → Each (IsSilent (coming (giver_at i s) i)) (calls.pipe_begins p (next_id s.promises) (next_id (fresh (fresh s.promises))) o reason)
+  begins-coming : (reason : Option Plain) (o : Option SignalId) → Each (IsSilent (coming (giver_at i s) i)) (pipe_calls.pipe_begins p (next_id s.promises) (next_id (fresh (fresh s.promises))) o reason)
   begins-coming (Some r) o = (refl, tt)
   begins-coming None None = (refl, (refl, (refl, tt)))
   begins-coming None (Some g) = (refl, (refl, (refl, (refl, tt))))
@@ -161,7 +162,7 @@ module _ (i j : StreamId) (prevent : Prevent) (signal : Option SignalId) (s : Sl
   begun-sound =
       let hosts = reached-hosts i j s free.reached free.source free.sink free.source_owner free.sink_owner free.untied in
       let g = reached-going s j free.reached in
-      let late : Each (IsLate (ear_at j s)) d.caused = ((refl, refl), ((refl, refl), ((refl, refl), begins-late (ear_at j s) (calls.reason_of signal s) signal))) in
+      let late : Each (IsLate (ear_at j s)) d.caused = ((refl, refl), ((refl, refl), ((refl, refl), begins-late (ear_at j s) (pipe_calls.reason_of signal s) signal))) in
       let r = reached-is s p free.reached in
       let few = rw is_begun at ((call-is p r.0 s (Pipe i j prevent signal) r.1).0) in
       let none = rw is_begun at (call-none p (Pipe i j prevent signal) s) in
@@ -189,14 +190,14 @@ module _ (i j : StreamId) (prevent : Prevent) (signal : Option SignalId) (s : Sl
           porting = λ q. rw is_begun at ((port-going j q).call g.0 s (Pipe i j prevent signal) (g.1.1 q));
           living = λ q. rw is_begun at ((port-living j q).call g.0 s (Pipe i j prevent signal) (reached-living s j q free.reached));
           shutting = λ q. rw is_begun at ((shuts-stays i q).call s (Pipe i j prevent signal) (reached-shuts i q s free.reached));
-          placed = (tt, (tt, (tt, begins-placed (ear_at j s) d.slots (calls.reason_of signal s) signal)));
+          placed = (tt, (tt, (tt, begins-placed (ear_at j s) d.slots (pipe_calls.reason_of signal s) signal)));
           front = late-front (ear_at j s) d.caused late;
           first = late-first (ear_at j s) (is_some (writable_at j d.slots).close_in_flight) d.caused (each-map (IsLate (ear_at j s)) (λ e. flushes (ear_at j s) e ≡ false) (λ e l. l.1) d.caused late);
         };
         few = few;
         only = omega (arith, none, o, x, before);
-        inner = (tt, (tt, (tt, begins-inner (rank (pipe_at p d.slots).phase) (calls.reason_of signal s) signal)));
-        ends = append_ends j p d.caused (refl, (refl, (refl, begins-last (calls.reason_of signal s) signal)));
+        inner = (tt, (tt, (tt, begins-inner (rank (pipe_at p d.slots).phase) (pipe_calls.reason_of signal s) signal)));
+        ends = append_ends j p d.caused (refl, (refl, (refl, begins-last (pipe_calls.reason_of signal s) signal)));
       }
 
   abbrev pub t : Told Value
@@ -212,10 +213,10 @@ module _ (i j : StreamId) (prevent : Prevent) (signal : Option SignalId) (s : Sl
       rw (
         fresh-heard,
         at,
-        late-silent (ear_at j s) d.caused ((refl, refl), ((refl, refl), ((refl, refl), begins-late (ear_at j s) (calls.reason_of signal s) signal))),
-        silent-all (writes j) d.caused (refl, (rw (if_same (is_same j j)) refl, (refl, begins-writes (calls.reason_of signal s) signal))),
-        silent-all (chunks p) d.caused (refl, (refl, (refl, begins-chunks (calls.reason_of signal s) signal))),
-        silent-all (coming (giver_at i s) i) d.caused (if_same (is_same i i), (refl, (if_same (is_same i i), begins-coming (calls.reason_of signal s) signal))),
+        late-silent (ear_at j s) d.caused ((refl, refl), ((refl, refl), ((refl, refl), begins-late (ear_at j s) (pipe_calls.reason_of signal s) signal))),
+        silent-all (writes j) d.caused (refl, (rw (if_same (is_same j j)) refl, (refl, begins-writes (pipe_calls.reason_of signal s) signal))),
+        silent-all (chunks p) d.caused (refl, (refl, (refl, begins-chunks (pipe_calls.reason_of signal s) signal))),
+        silent-all (coming (giver_at i s) i) d.caused (if_same (is_same i i), (refl, (if_same (is_same i i), begins-coming (pipe_calls.reason_of signal s) signal))),
         then_empty (in_source (source_at i s)),
       ) refl
 

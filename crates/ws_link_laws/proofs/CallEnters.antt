@@ -16,8 +16,9 @@ use Rattle.ws_steps.specs.declared.effects.Owner.TheVariants.{Host, HalfOf, Bran
 use Rattle.ws_steps.specs.declared.readable.ReadableOperation.TheVariants.{Enqueue as EnqueueChunk, Close as CloseReadable}
 use Rattle.ws_steps.specs.declared.transform.TransformId.{TransformId}
 use Rattle.ws_steps.specs.declared.transform.TransformOperation.TheVariants.{Enqueue as EnqueueByTransform, Terminate as TerminateTransform}
-use Rattle.ws_steps.specs.Calls as calls
-use Rattle.ws_steps.specs.Calls.{Begun}
+use Rattle.ws_steps.specs.Begun as replying
+use Rattle.ws_steps.specs.ControllerCalls as controller_calls
+use Rattle.ws_steps.specs.Begun.{Begun}
 use Rattle.ws_steps.specs.Bytes as byte
 use Rattle.ws_steps.specs.Histories.{is_same}
 use Rattle.ws_steps.specs.Pipes as pipe
@@ -92,12 +93,12 @@ behind-shut i j p s e =
 module _ (i j : StreamId) (p : PipeId) (s : Slots) (here : has_source i s ≡ true) (sink : has_writable j s ≡ true) (halved : Halved s) (ended : AreEnds s) (locks : all_spare i j s.locks ≡ true) (apart : AreApart i j p s.pipes) where
   -- what enters
 
-  pub refused : (t : Told Value) (reply : Reply) → (t ≡ silence) ⊎ ((behind i j p s).mark ≢ Open) → Begins i j p s t (calls.replies reply s)
+  pub refused : (t : Told Value) (reply : Reply) → (t ≡ silence) ⊎ ((behind i j p s).mark ≢ Open) → Begins i j p s t (replying.replies reply s)
   refused t reply (inl e) = rw e (record { locks = locks; apart = apart; heard = λ w. refl; outer = tt; comes = λ own. short_refl _ })
   refused t reply (inr n) =
       record { locks = locks; apart = apart; heard = λ w. refl; outer = tt; comes = λ own. rw (then_empty (behind i j p s)) (shut (behind i j p s) (behind i j p s) t n (short_refl (behind i j p s))) }
 
-  unsupported : (t : Told Value) → (IsHosts s (owner_at i s) → t ≡ silence) → Begins i j p s t (calls.unsupported s)
+  unsupported : (t : Told Value) → (IsHosts s (owner_at i s) → t ≡ silence) → Begins i j p s t (replying.unsupported s)
   unsupported t none =
       record { locks = locks; apart = apart; heard = λ w. refl; outer = tt; comes = λ own. rw (none own, then_empty (behind i j p s)) (short_refl (behind i j p s)) }
 
@@ -120,7 +121,7 @@ module _ (i j : StreamId) (p : PipeId) (s : Slots) (here : has_source i s ≡ tr
   full : (k : StreamId) (t : Told Value) → (is_same i k ≡ false → t ≡ silence) → can_close_or_enqueue (source_at k s) ≡ false → (t ≡ silence) ⊎ ((behind i j p s).mark ≢ Open)
   full k t elsewhere e = enters-or k t elsewhere (λ is. inr (behind-shut i j p s (rw is e)))
 
-  pub brings : (t : Told Value) (reply : Reply) (e : Effect) → IsOuter i j e → coming (giver_at i s) i e ≡ t → Begins i j p s t (calls.begun reply (causes (e ∷ []) s))
+  pub brings : (t : Told Value) (reply : Reply) (e : Effect) → IsOuter i j e → coming (giver_at i s) i e ≡ t → Begins i j p s t (replying.begun reply (causes (e ∷ []) s))
   brings t reply e o c = record { locks = locks; apart = apart; heard = λ w. refl; outer = (o, tt); comes = λ own. rw (then_empty (coming (giver_at i s) i e), c) (short_refl (then_told (behind i j p s) t)) }
 
   -- what enters is told by what the source is, where that is stream k
@@ -144,9 +145,9 @@ module _ (i j : StreamId) (p : PipeId) (s : Slots) (here : has_source i s ≡ tr
   default-full k there e = rw (ap as_source (readable_there (slice_get s.streams k.0) there)) e
 
   for_owner : (k : StreamId) (t : Told Value) (operation : Slots → Owner → Begun) → has_byte k s ≡ false → (is_same i k ≡ false → t ≡ silence) → ((o : Owner) → has_readable k s ≡ true → owner_at k s ≡ o → Begins i j p s t (operation s o))
-      → Begins i j p s t (calls.for_readable k (λ z. operation z (readable_at k z).owner) s)
+      → Begins i j p s t (replying.for_readable k (λ z. operation z (readable_at k z).owner) s)
   for_owner k t operation none elsewhere f =
-      either (Begins i j p s t) (has_readable k s) (operation s (readable_at k s).owner) (calls.unsupported s)
+      either (Begins i j p s t) (has_readable k s) (operation s (readable_at k s).owner) (replying.unsupported s)
       (λ there. f (readable_at k s).owner there (source-owner k s there))
       (λ absent. refused t (Throws Unsupported) (enters-or k t elsewhere (λ is. let there : has_source k s ≡ true = rw is at here in absurd (neither (has_readable k s) (has_byte k s) absent none there))))
 
@@ -192,7 +193,7 @@ module _ (i j : StreamId) (p : PipeId) (s : Slots) (here : has_source i s ≡ tr
   enqueue-elsewhere : (k : StreamId) (v : Value) (g : Giver) → is_same i k ≡ false → enters g i (Enqueue k v) ≡ silence
   enqueue-elsewhere k v g d = rw d refl
 
-  enqueues : (k : StreamId) (v : Value) → has_byte k s ≡ false → (o : Owner) → has_readable k s ≡ true → owner_at k s ≡ o → Begins i j p s (enters (giver_at i s) i (Enqueue k v)) (calls.enqueue_by v k s o)
+  enqueues : (k : StreamId) (v : Value) → has_byte k s ≡ false → (o : Owner) → has_readable k s ≡ true → owner_at k s ≡ o → Begins i j p s (enters (giver_at i s) i (Enqueue k v)) (controller_calls.enqueue_by v k s o)
   enqueues k v none Host there owner =
       let t : Told Value = enters (giver_at i s) i (Enqueue k v) in
       either (Begins i j p s t) (can_close_or_enqueue (readable_at k s)) _ _
@@ -228,7 +229,7 @@ module _ (i j : StreamId) (p : PipeId) (s : Slots) (here : has_source i s ≡ tr
   bytes-refused k [] there e = inl (none-enters k (Bytes []) there refl)
   bytes-refused k (n ∷ ns) there e = full k (enters (giver_at i s) i (Enqueue k (Bytes (n ∷ ns)))) (enqueue-elsewhere k (Bytes (n ∷ ns)) (giver_at i s)) (bytes-full k there e)
 
-  enqueues_bytes : (k : StreamId) (v : Value) → has_byte k s ≡ true → Begins i j p s (enters (giver_at i s) i (Enqueue k v)) (calls.enqueue_bytes k s v)
+  enqueues_bytes : (k : StreamId) (v : Value) → has_byte k s ≡ true → Begins i j p s (enters (giver_at i s) i (Enqueue k v)) (controller_calls.enqueue_bytes k s v)
   enqueues_bytes k (PlainValue v) there = refused (enters (giver_at i s) i (Enqueue k (PlainValue v))) (Throws TypeError) (inl (none-enters k (PlainValue v) there refl))
   enqueues_bytes k (Bytes b) there =
       let t : Told Value = enters (giver_at i s) i (Enqueue k (Bytes b)) in
@@ -257,7 +258,7 @@ module _ (i j : StreamId) (p : PipeId) (s : Slots) (here : has_source i s ≡ tr
   end-comes : (k : StreamId) (g : Giver) → (i ≡ k → giver_at i s ≡ g) → enters g i (Finish k) ≡ (if is_same i k then told [] Ended else silence) → enters (giver_at i s) i (Finish k) ≡ coming (giver_at i s) i (OnReadable k CloseReadable)
   end-comes k g own e = own-or k (λ o. enters o i (Finish k)) (if is_same i k then told [] Ended else silence) g own (λ d. finish-elsewhere k (giver_at i s) d ∙ rw d refl) e
 
-  finishes : (k : StreamId) → has_byte k s ≡ false → (o : Owner) → has_readable k s ≡ true → owner_at k s ≡ o → Begins i j p s (enters (giver_at i s) i (Finish k)) (calls.finish_by k s o)
+  finishes : (k : StreamId) → has_byte k s ≡ false → (o : Owner) → has_readable k s ≡ true → owner_at k s ≡ o → Begins i j p s (enters (giver_at i s) i (Finish k)) (controller_calls.finish_by k s o)
   finishes k none Host there owner =
       let t : Told Value = enters (giver_at i s) i (Finish k) in
       either (Begins i j p s t) (can_close_or_enqueue (readable_at k s)) _ _ (λ e. brings t ReplyDone (OnReadable k CloseReadable) tt (sym (end-comes k OfSource (default-is k Host none owner) refl)))
@@ -268,14 +269,14 @@ module _ (i j : StreamId) (p : PipeId) (s : Slots) (here : has_source i s ≡ tr
   finishes k none (EndOf c) there owner =
       refused (enters (giver_at i s) i (Finish k)) (Throws Unsupported) (inl (own-or k (λ g. enters g i (Finish k)) silence (OfEnd c) (default-is k (EndOf c) none owner) (finish-elsewhere k (giver_at i s)) refl))
 
-  finishes_bytes : (k : StreamId) → has_byte k s ≡ true → Begins i j p s (enters (giver_at i s) i (Finish k)) (calls.finish_bytes k s)
+  finishes_bytes : (k : StreamId) → has_byte k s ≡ true → Begins i j p s (enters (giver_at i s) i (Finish k)) (controller_calls.finish_bytes k s)
   finishes_bytes k there =
       let t : Told Value = enters (giver_at i s) i (Finish k) in
       either (Begins i j p s t) (byte.can_take (byte_at k s)) _ _
-      (λ e. brings t (calls.close_reply (byte_at k s)) (OnReadable k CloseReadable) tt (sym (end-comes k OfByteSource (bytes-is k there) refl)))
+      (λ e. brings t (controller_calls.close_reply (byte_at k s)) (OnReadable k CloseReadable) tt (sym (end-comes k OfByteSource (bytes-is k there) refl)))
       (λ e. refused t (Throws TypeError) (full k t (finish-elsewhere k (giver_at i s)) (bytes-full k there e)))
 
-  terminates : (k : StreamId) → has_byte k s ≡ false → (o : Owner) → has_readable k s ≡ true → owner_at k s ≡ o → Begins i j p s (enters (giver_at i s) i (Terminate k)) (calls.terminate_by s o)
+  terminates : (k : StreamId) → has_byte k s ≡ false → (o : Owner) → has_readable k s ≡ true → owner_at k s ≡ o → Begins i j p s (enters (giver_at i s) i (Terminate k)) (controller_calls.terminate_by s o)
   terminates k none Host there owner =
       refused (enters (giver_at i s) i (Terminate k)) (Throws Unsupported) (inl (own-or k (λ g. enters g i (Terminate k)) silence OfSource (default-is k Host none owner) (terminate-elsewhere k (giver_at i s)) refl))
   terminates k none (HalfOf a) there owner =
@@ -287,24 +288,24 @@ module _ (i j : StreamId) (p : PipeId) (s : Slots) (here : has_source i s ≡ tr
       refused (enters (giver_at i s) i (Terminate k)) (Throws Unsupported) (inl (own-or k (λ g. enters g i (Terminate k)) silence (OfEnd c) (default-is k (EndOf c) none owner) (terminate-elsewhere k (giver_at i s)) refl))
 
   -- a byte stream isn't terminated
-  pub terminate_call : (k : StreamId) → Begins i j p s (enters (giver_at i s) i (Terminate k)) (calls.for_readable k (calls.terminate k) s)
+  pub terminate_call : (k : StreamId) → Begins i j p s (enters (giver_at i s) i (Terminate k)) (replying.for_readable k (controller_calls.terminate k) s)
   terminate_call k = by (has_byte k s) refl
     where
-      by : (b : Bool) → b ≡ has_byte k s → Begins i j p s (enters (giver_at i s) i (Terminate k)) (calls.for_readable k (calls.terminate k) s)
-      by false e = for_owner k (enters (giver_at i s) i (Terminate k)) calls.terminate_by (sym e) (terminate-elsewhere k (giver_at i s)) (terminates k (sym e))
+      by : (b : Bool) → b ≡ has_byte k s → Begins i j p s (enters (giver_at i s) i (Terminate k)) (replying.for_readable k (controller_calls.terminate k) s)
+      by false e = for_owner k (enters (giver_at i s) i (Terminate k)) controller_calls.terminate_by (sym e) (terminate-elsewhere k (giver_at i s)) (terminates k (sym e))
       by true e =
           rw (no_default (slice_get s.streams k.0) (sym e))
           (refused (enters (giver_at i s) i (Terminate k)) (Throws Unsupported) (inl (own-or k (λ g. enters g i (Terminate k)) silence OfByteSource (bytes-is k (sym e)) (terminate-elsewhere k (giver_at i s)) refl)))
 
-  pub enqueue_call : (k : StreamId) (v : Value) → Begins i j p s (enters (giver_at i s) i (Enqueue k v)) (calls.enqueue_call k v s)
+  pub enqueue_call : (k : StreamId) (v : Value) → Begins i j p s (enters (giver_at i s) i (Enqueue k v)) (controller_calls.enqueue_call k v s)
   enqueue_call k v =
-      either (Begins i j p s (enters (giver_at i s) i (Enqueue k v))) (has_byte k s) (calls.enqueue_bytes k s v) _ (enqueues_bytes k v)
-      (λ none. for_owner k (enters (giver_at i s) i (Enqueue k v)) (calls.enqueue_by v k) none (enqueue-elsewhere k v (giver_at i s)) (enqueues k v none))
+      either (Begins i j p s (enters (giver_at i s) i (Enqueue k v))) (has_byte k s) (controller_calls.enqueue_bytes k s v) _ (enqueues_bytes k v)
+      (λ none. for_owner k (enters (giver_at i s) i (Enqueue k v)) (controller_calls.enqueue_by v k) none (enqueue-elsewhere k v (giver_at i s)) (enqueues k v none))
 
-  pub finish_call : (k : StreamId) → Begins i j p s (enters (giver_at i s) i (Finish k)) (calls.finish_call k s)
+  pub finish_call : (k : StreamId) → Begins i j p s (enters (giver_at i s) i (Finish k)) (controller_calls.finish_call k s)
   finish_call k =
-      either (Begins i j p s (enters (giver_at i s) i (Finish k))) (has_byte k s) (calls.finish_bytes k s) _ (finishes_bytes k)
-      (λ none. for_owner k (enters (giver_at i s) i (Finish k)) (calls.finish_by k) none (finish-elsewhere k (giver_at i s)) (finishes k none))
+      either (Begins i j p s (enters (giver_at i s) i (Finish k))) (has_byte k s) (controller_calls.finish_bytes k s) _ (finishes_bytes k)
+      (λ none. for_owner k (enters (giver_at i s) i (Finish k)) (controller_calls.finish_by k) none (finish-elsewhere k (giver_at i s)) (finishes k none))
 
   pub deliver-comes : (c : PortId) (m : Message) (g : Giver) → coming g i (OnPort c (DeliverMessage m)) ≡ enters g i (Deliver c m)
   deliver-comes c m OfSource = refl

@@ -33,8 +33,13 @@ use Rattle.ws_steps.specs.declared.transform.Kind.{Kind}
 use Rattle.ws_steps.specs.declared.transform.TransformOperation.TheVariants.{Error as ErrorTransform}
 use Rattle.ws_steps.specs.declared.writable.WritableOperation.TheVariants.{Write as WriteChunk, Close as CloseStream, Abort as AbortStream, ErrorIfNeeded}
 use Rattle.ws_steps.specs.declared.writable.Writer.{Writer}
-use Rattle.ws_steps.specs.Calls as calls
-use Rattle.ws_steps.specs.Calls.{Begun, begin}
+use Rattle.ws_steps.specs.Begun as replying
+use Rattle.ws_steps.specs.MakingCalls as making_calls
+use Rattle.ws_steps.specs.LockCalls as lock_calls
+use Rattle.ws_steps.specs.ControllerCalls as controller_calls
+use Rattle.ws_steps.specs.PipeCalls as pipe_calls
+use Rattle.ws_steps.specs.Begun.{Begun}
+use Rattle.ws_steps.specs.Calls.{begin}
 use Rattle.ws_steps.specs.Descriptors.{Descriptor, respond_throws}
 use Rattle.ws_steps.specs.Effects.{type_error}
 use Rattle.ws_steps.specs.Histories.{is_same}
@@ -74,29 +79,29 @@ module _ (i j : StreamId) (p : PipeId) (s : Slots) (here : has_source i s ≡ tr
   abbrev P : Begun → Type 0
   P b = Begins i j p s silence b
 
-  unchanged : (reply : Reply) → P (calls.replies reply s)
+  unchanged : (reply : Reply) → P (replying.replies reply s)
   unchanged reply = record { locks = locks; apart = apart; heard = λ w. refl; outer = tt; comes = λ own. short_refl _ }
 
   -- a call that causes effects of others, and changes no more than these
   quietly : (b : Begun) → all_spare i j b.done.slots.locks ≡ true → AreApart i j p b.done.slots.pipes → ((w : Ear) → unheard w b.done.slots.promises.events ≡ unheard w s.promises.events) → Each (IsOuter i j) b.done.caused → Each (IsSilent (coming (giver_at i s) i)) b.done.caused → P b
   quietly b l a h o c = record { locks = l; apart = a; heard = h; outer = o; comes = λ own. rw (silent-all (coming (giver_at i s) i) b.done.caused c) (short_refl _) }
 
-  promising : (f : PromiseId → List Effect) → Each (IsOuter i j) (f (next_id s.promises)) → Each (IsSilent (coming (giver_at i s) i)) (f (next_id s.promises)) → P (calls.promising f s)
-  promising f o c = quietly (calls.promising f s) locks apart (λ w. fresh-unheard w s.promises) o c
+  promising : (f : PromiseId → List Effect) → Each (IsOuter i j) (f (next_id s.promises)) → Each (IsSilent (coming (giver_at i s) i)) (f (next_id s.promises)) → P (replying.promising f s)
+  promising f o c = quietly (replying.promising f s) locks apart (λ w. fresh-unheard w s.promises) o c
 
-  does : (es : List Effect) → Each (IsOuter i j) es → Each (IsSilent (coming (giver_at i s) i)) es → P (calls.does es s)
-  does es o c = quietly (calls.does es s) locks apart (λ w. refl) o c
+  does : (es : List Effect) → Each (IsOuter i j) es → Each (IsSilent (coming (giver_at i s) i)) es → P (replying.does es s)
+  does es o c = quietly (replying.does es s) locks apart (λ w. refl) o c
 
-  rejected : P (calls.rejected s)
+  rejected : P (replying.rejected s)
   rejected = promising (λ q. SettlePromise q (Err type_error) ∷ []) (tt, tt) (refl, tt)
 
-  for_source : (k : StreamId) (operation : Slots → Begun) → P (operation s) → P (calls.for_source k operation s)
-  for_source k operation h = either P (has_source k s) (operation s) (calls.unsupported s) (λ e. h) (λ e. unchanged (Throws Unsupported))
+  for_source : (k : StreamId) (operation : Slots → Begun) → P (operation s) → P (replying.for_source k operation s)
+  for_source k operation h = either P (has_source k s) (operation s) (replying.unsupported s) (λ e. h) (λ e. unchanged (Throws Unsupported))
 
-  for_writable : (k : StreamId) (operation : Slots → Begun) → P (operation s) → P (calls.for_writable k operation s)
-  for_writable k operation h = either P (has_writable k s) (operation s) (calls.unsupported s) (λ e. h) (λ e. unchanged (Throws Unsupported))
+  for_writable : (k : StreamId) (operation : Slots → Begun) → P (operation s) → P (replying.for_writable k operation s)
+  for_writable k operation h = either P (has_writable k s) (operation s) (replying.unsupported s) (λ e. h) (λ e. unchanged (Throws Unsupported))
 
-  by_reader : (holding : StreamId → Slots → Begun) (free : Slots → Begun) → ((k : StreamId) → is_same i k ≡ false → P (holding k s)) → P (free s) → (n : ℕ) (o : Option Lock) → slice_get s.locks n ≡ o → P (calls.by_reader holding free s o)
+  by_reader : (holding : StreamId → Slots → Begun) (free : Slots → Begun) → ((k : StreamId) → is_same i k ≡ false → P (holding k s)) → P (free s) → (n : ℕ) (o : Option Lock) → slice_get s.locks n ≡ o → P (lock_calls.by_reader holding free s o)
   by_reader holding free h f n None e = unchanged (Throws Unsupported)
   by_reader holding free h f n (Some (ReaderLock (Some k) closed)) e = for_source k (holding k) (h k (not_false (is_same i k) (spare-at i j n s.locks (ReaderLock (Some k) closed) locks e)))
   by_reader holding free h f n (Some (ReaderLock None closed)) e = f
@@ -106,13 +111,13 @@ module _ (i j : StreamId) (p : PipeId) (s : Slots) (here : has_source i s ≡ tr
   by_reader holding free h f n (Some (ReleasedWriter w)) e = unchanged (Throws Unsupported)
   by_reader holding free h f n (Some Inner) e = unchanged (Throws Unsupported)
 
-  by_default : (holding : StreamId → Slots → Begun) (free : Slots → Begun) → ((k : StreamId) → is_same i k ≡ false → P (holding k s)) → P (free s) → (n : ℕ) (o : Option Lock) → slice_get s.locks n ≡ o → P (calls.by_default_reader holding free s o)
-  by_default holding free h f n o e = either P (calls.is_byob_reader o) (calls.unsupported s) (calls.by_reader holding free s o) (λ b. unchanged (Throws Unsupported)) (λ b. by_reader holding free h f n o e)
+  by_default : (holding : StreamId → Slots → Begun) (free : Slots → Begun) → ((k : StreamId) → is_same i k ≡ false → P (holding k s)) → P (free s) → (n : ℕ) (o : Option Lock) → slice_get s.locks n ≡ o → P (lock_calls.by_default_reader holding free s o)
+  by_default holding free h f n o e = either P (lock_calls.is_byob_reader o) (replying.unsupported s) (lock_calls.by_reader holding free s o) (λ b. unchanged (Throws Unsupported)) (λ b. by_reader holding free h f n o e)
 
-  by_byob : (holding : StreamId → Slots → Begun) (free : Slots → Begun) → ((k : StreamId) → is_same i k ≡ false → P (holding k s)) → P (free s) → (n : ℕ) (o : Option Lock) → slice_get s.locks n ≡ o → P (calls.by_byob_reader holding free s o)
-  by_byob holding free h f n o e = either P (calls.is_byob_reader o) (calls.by_reader holding free s o) (calls.unsupported s) (λ b. by_reader holding free h f n o e) (λ b. unchanged (Throws Unsupported))
+  by_byob : (holding : StreamId → Slots → Begun) (free : Slots → Begun) → ((k : StreamId) → is_same i k ≡ false → P (holding k s)) → P (free s) → (n : ℕ) (o : Option Lock) → slice_get s.locks n ≡ o → P (lock_calls.by_byob_reader holding free s o)
+  by_byob holding free h f n o e = either P (lock_calls.is_byob_reader o) (lock_calls.by_reader holding free s o) (replying.unsupported s) (λ b. by_reader holding free h f n o e) (λ b. unchanged (Throws Unsupported))
 
-  by_writer : (holding : StreamId → Slots → Begun) (free : Slots → Begun) → ((k : StreamId) → is_same j k ≡ false → P (holding k s)) → P (free s) → (n : ℕ) (o : Option Lock) → slice_get s.locks n ≡ o → P (calls.by_writer holding free s o)
+  by_writer : (holding : StreamId → Slots → Begun) (free : Slots → Begun) → ((k : StreamId) → is_same j k ≡ false → P (holding k s)) → P (free s) → (n : ℕ) (o : Option Lock) → slice_get s.locks n ≡ o → P (lock_calls.by_writer holding free s o)
   by_writer holding free h f n None e = unchanged (Throws Unsupported)
   by_writer holding free h f n (Some (ReaderLock stream closed)) e = unchanged (Throws Unsupported)
   by_writer holding free h f n (Some (ByobReader stream closed)) e = unchanged (Throws Unsupported)
@@ -120,92 +125,92 @@ module _ (i j : StreamId) (p : PipeId) (s : Slots) (here : has_source i s ≡ tr
   by_writer holding free h f n (Some (ReleasedWriter w)) e = f
   by_writer holding free h f n (Some Inner) e = unchanged (Throws Unsupported)
 
-  of_writer : (operation : Writer → Slots → Begun) (w : Option Writer) → ((v : Writer) → P (operation v s)) → P (calls.of_writer operation s w)
+  of_writer : (operation : Writer → Slots → Begun) (w : Option Writer) → ((v : Writer) → P (operation v s)) → P (lock_calls.of_writer operation s w)
   of_writer operation None h = unchanged (Throws Unsupported)
   of_writer operation (Some w) h = h w
 
-  closed_by : (o : Option Lock) → P (calls.closed_by s o)
+  closed_by : (o : Option Lock) → P (lock_calls.closed_by s o)
   closed_by None = unchanged (Throws Unsupported)
   closed_by (Some (ReaderLock stream closed)) = unchanged (Promise closed)
   closed_by (Some (ByobReader stream closed)) = unchanged (Promise closed)
-  closed_by (Some (WriterLock k)) = of_writer (λ w. calls.replies (Promise w.closed)) (writable_at k s).writer (λ w. unchanged (Promise w.closed))
+  closed_by (Some (WriterLock k)) = of_writer (λ w. replying.replies (Promise w.closed)) (writable_at k s).writer (λ w. unchanged (Promise w.closed))
   closed_by (Some (ReleasedWriter w)) = unchanged (Promise w.closed)
   closed_by (Some Inner) = unchanged (Throws Unsupported)
 
-  ready_by : (o : Option Lock) → P (calls.ready_by s o)
+  ready_by : (o : Option Lock) → P (lock_calls.ready_by s o)
   ready_by None = unchanged (Throws Unsupported)
   ready_by (Some (ReaderLock stream closed)) = unchanged (Throws Unsupported)
   ready_by (Some (ByobReader stream closed)) = unchanged (Throws Unsupported)
-  ready_by (Some (WriterLock k)) = of_writer (λ w. calls.replies (Promise w.ready)) (writable_at k s).writer (λ w. unchanged (Promise w.ready))
+  ready_by (Some (WriterLock k)) = of_writer (λ w. replying.replies (Promise w.ready)) (writable_at k s).writer (λ w. unchanged (Promise w.ready))
   ready_by (Some (ReleasedWriter w)) = unchanged (Promise w.ready)
   ready_by (Some Inner) = unchanged (Throws Unsupported)
 
   -- a release
 
-  renewed-outer : (t : Table) (kept : Bool) → Each (IsOuter i j) (calls.reject_renewed t kept)
+  renewed-outer : (t : Table) (kept : Bool) → Each (IsOuter i j) (lock_calls.reject_renewed t kept)
   renewed-outer t true = tt
   renewed-outer t false = (tt, tt)
 
-  renewed-coming : (t : Table) (kept : Bool) → Each (IsSilent (coming (giver_at i s) i)) (calls.reject_renewed t kept)
+  renewed-coming : (t : Table) (kept : Bool) → Each (IsSilent (coming (giver_at i s) i)) (lock_calls.reject_renewed t kept)
   renewed-coming t true = tt
   renewed-coming t false = (refl, tt)
 
-  renewed-heard : (w : Ear) (t : Table) (kept : Bool) → unheard w (calls.with_renewed t kept).events ≡ unheard w t.events
+  renewed-heard : (w : Ear) (t : Table) (kept : Bool) → unheard w (lock_calls.with_renewed t kept).events ≡ unheard w t.events
   renewed-heard w t true = refl
   renewed-heard w t false = fresh-unheard w t
 
-  releases_reader : (released : PromiseId → Lock) → ((q : PromiseId) → spares i j (released q) ≡ true) → (l : LockId) (closed : PromiseId) (k : StreamId) → P (calls.release_reader released l closed k s)
+  releases_reader : (released : PromiseId → Lock) → ((q : PromiseId) → spares i j (released q) ≡ true) → (l : LockId) (closed : PromiseId) (k : StreamId) → P (lock_calls.release_reader released l closed k s)
   releases_reader released spared l closed k =
       let kept : Bool = readable.is_readable (source_at k s).state in
-      quietly (calls.release_reader released l closed k s) (spare-set i j l.0 s.locks _ locks (spared (calls.renewed closed s.promises kept))) apart (λ w. renewed-heard w s.promises kept)
-      (each-append (IsOuter i j) (calls.reject_renewed s.promises kept) _ (renewed-outer s.promises kept) (tt, tt))
-      (each-append (IsSilent (coming (giver_at i s) i)) (calls.reject_renewed s.promises kept) _ (renewed-coming s.promises kept) (if_same (is_same i k), tt))
+      quietly (lock_calls.release_reader released l closed k s) (spare-set i j l.0 s.locks _ locks (spared (lock_calls.renewed closed s.promises kept))) apart (λ w. renewed-heard w s.promises kept)
+      (each-append (IsOuter i j) (lock_calls.reject_renewed s.promises kept) _ (renewed-outer s.promises kept) (tt, tt))
+      (each-append (IsSilent (coming (giver_at i s) i)) (lock_calls.reject_renewed s.promises kept) _ (renewed-coming s.promises kept) (if_same (is_same i k), tt))
 
-  releases_writer : (l : LockId) (k : StreamId) (w : Writer) → P (calls.release_writer l k w s)
+  releases_writer : (l : LockId) (k : StreamId) (w : Writer) → P (lock_calls.release_writer l k w s)
   releases_writer l k w =
       let ready : Bool = is_pending_at w.ready s.promises in
-      let t : Table = calls.with_renewed s.promises ready in
+      let t : Table = lock_calls.with_renewed s.promises ready in
       let closed : Bool = is_pending_at w.closed t in
-      quietly (calls.release_writer l k w s) (spare-set i j l.0 s.locks _ locks refl) apart (λ w. renewed-heard w t closed ∙ renewed-heard w s.promises ready)
-      (each-append (IsOuter i j) (calls.reject_renewed s.promises ready) _ (renewed-outer s.promises ready) (each-append (IsOuter i j) (calls.reject_renewed t closed) _ (renewed-outer t closed) (tt, tt)))
-      (each-append (IsSilent (coming (giver_at i s) i)) (calls.reject_renewed s.promises ready) _ (renewed-coming s.promises ready) (each-append (IsSilent (coming (giver_at i s) i)) (calls.reject_renewed t closed) _ (renewed-coming t closed) (refl, tt)))
+      quietly (lock_calls.release_writer l k w s) (spare-set i j l.0 s.locks _ locks refl) apart (λ w. renewed-heard w t closed ∙ renewed-heard w s.promises ready)
+      (each-append (IsOuter i j) (lock_calls.reject_renewed s.promises ready) _ (renewed-outer s.promises ready) (each-append (IsOuter i j) (lock_calls.reject_renewed t closed) _ (renewed-outer t closed) (tt, tt)))
+      (each-append (IsSilent (coming (giver_at i s) i)) (lock_calls.reject_renewed s.promises ready) _ (renewed-coming s.promises ready) (each-append (IsSilent (coming (giver_at i s) i)) (lock_calls.reject_renewed t closed) _ (renewed-coming t closed) (refl, tt)))
 
-  release : (l : LockId) (o : Option Lock) → P (calls.release l s o)
+  release : (l : LockId) (o : Option Lock) → P (lock_calls.release l s o)
   release l None = unchanged (Throws Unsupported)
-  release l (Some (ReaderLock (Some k) closed)) = for_source k (calls.release_reader (ReaderLock None) l closed k) (releases_reader (ReaderLock None) (λ q. refl) l closed k)
+  release l (Some (ReaderLock (Some k) closed)) = for_source k (lock_calls.release_reader (ReaderLock None) l closed k) (releases_reader (ReaderLock None) (λ q. refl) l closed k)
   release l (Some (ReaderLock None closed)) = unchanged ReplyDone
-  release l (Some (ByobReader (Some k) closed)) = for_source k (calls.release_reader (ByobReader None) l closed k) (releases_reader (ByobReader None) (λ q. refl) l closed k)
+  release l (Some (ByobReader (Some k) closed)) = for_source k (lock_calls.release_reader (ByobReader None) l closed k) (releases_reader (ByobReader None) (λ q. refl) l closed k)
   release l (Some (ByobReader None closed)) = unchanged ReplyDone
-  release l (Some (WriterLock k)) = of_writer (calls.release_writer l k) (writable_at k s).writer (λ w. releases_writer l k w)
+  release l (Some (WriterLock k)) = of_writer (lock_calls.release_writer l k) (writable_at k s).writer (λ w. releases_writer l k w)
   release l (Some (ReleasedWriter w)) = unchanged ReplyDone
   release l (Some Inner) = unchanged (Throws Unsupported)
 
   -- calls on streams
 
-  abort_unless : (reason : Plain) (k : StreamId) (o : Option PromiseId) → P (calls.abort_unless reason k s o)
+  abort_unless : (reason : Plain) (k : StreamId) (o : Option PromiseId) → P (lock_calls.abort_unless reason k s o)
   abort_unless reason k None = promising (λ q. OnWritable k (AbortStream reason q) ∷ []) (tt, tt) (refl, tt)
   abort_unless reason k (Some q) = unchanged (Promise q)
 
-  settle_host : (h : HostId) (answer : Answer) (o : Option PromiseId) → P (calls.settle_host h answer s o)
+  settle_host : (h : HostId) (answer : Answer) (o : Option PromiseId) → P (controller_calls.settle_host h answer s o)
   settle_host h answer None = unchanged (Throws Unsupported)
-  settle_host h answer (Some q) = quietly (calls.settle_host h answer s (Some q)) locks apart (λ w. refl) (tt, tt) (refl, tt)
+  settle_host h answer (Some q) = quietly (controller_calls.settle_host h answer s (Some q)) locks apart (λ w. refl) (tt, tt) (refl, tt)
 
-  unlocked_readable : (k : StreamId) (locked : Slots → Begun) (free : StreamId → Slots → Begun) → P (locked s) → P (free k s) → P (calls.unlocked_readable k locked free s)
+  unlocked_readable : (k : StreamId) (locked : Slots → Begun) (free : StreamId → Slots → Begun) → P (locked s) → P (free k s) → P (replying.unlocked_readable k locked free s)
   unlocked_readable k locked free l f =
       for_source k (λ s. if readable_looks.is_locked (source_at k s) then locked s else free k s) (either P (readable_looks.is_locked (source_at k s)) (locked s) (free k s) (λ e. l) (λ e. f))
 
-  unlocked_writable : (k : StreamId) (locked : Slots → Begun) (free : StreamId → Slots → Begun) → P (locked s) → P (free k s) → P (calls.unlocked_writable k locked free s)
+  unlocked_writable : (k : StreamId) (locked : Slots → Begun) (free : StreamId → Slots → Begun) → P (locked s) → P (free k s) → P (replying.unlocked_writable k locked free s)
   unlocked_writable k locked free l f =
       for_writable k (λ s. if writable_looks.is_locked (writable_at k s) then locked s else free k s) (either P (writable_looks.is_locked (writable_at k s)) (locked s) (free k s) (λ e. l) (λ e. f))
 
   -- a pipe of other streams
 
-  begins-outer : (me : PipeId) (a b : PromiseId) (signal : Option SignalId) (reason : Option Plain) → Each (IsOuter i j) (calls.pipe_begins me a b signal reason)
+  begins-outer : (me : PipeId) (a b : PromiseId) (signal : Option SignalId) (reason : Option Plain) → Each (IsOuter i j) (pipe_calls.pipe_begins me a b signal reason)
   begins-outer me a b signal (Some r) = (tt, tt)
   begins-outer me a b None None = (tt, (tt, (tt, tt)))
   begins-outer me a b (Some g) None = (tt, (tt, (tt, (tt, tt))))
 
-  begins-coming : (me : PipeId) (a b : PromiseId) (signal : Option SignalId) (reason : Option Plain) → Each (IsSilent (coming (giver_at i s) i)) (calls.pipe_begins me a b signal reason)
+  begins-coming : (me : PipeId) (a b : PromiseId) (signal : Option SignalId) (reason : Option Plain) → Each (IsSilent (coming (giver_at i s) i)) (pipe_calls.pipe_begins me a b signal reason)
   begins-coming me a b signal (Some r) = (refl, tt)
   begins-coming me a b None None = (refl, (refl, (refl, tt)))
   begins-coming me a b (Some g) None = (refl, (refl, (refl, (refl, tt))))
@@ -217,102 +222,102 @@ module _ (i j : StreamId) (p : PipeId) (s : Slots) (here : has_source i s ≡ tr
       by (inl same) = apart n x (sym same ∙ e) m
       by (inr last) = let is : x ≡ y = cc in rw is a
 
-  pipe_to : (source dest : StreamId) (prevent : Prevent) (signal : Option SignalId) → is_same i source ≡ false → is_same j dest ≡ false → P (calls.pipe_to source dest prevent signal s)
+  pipe_to : (source dest : StreamId) (prevent : Prevent) (signal : Option SignalId) → is_same i source ≡ false → is_same j dest ≡ false → P (pipe_calls.pipe_to source dest prevent signal s)
   pipe_to source dest prevent signal a b =
       let me : PipeId = record { 0 = length s.pipes } in
       let t : Table = s.promises in
       let closed : PromiseId = next_id t in
       let w : PromiseId = next_id (fresh (fresh t)) in
-      quietly (calls.pipe_to source dest prevent signal s) (spare-append i j s.locks (Inner ∷ Inner ∷ []) locks refl) (apart-append _ (a, b))
+      quietly (pipe_calls.pipe_to source dest prevent signal s) (spare-append i j s.locks (Inner ∷ Inner ∷ []) locks refl) (apart-append _ (a, b))
       (λ w. fresh-unheard w (fresh (fresh (fresh t))) ∙ (fresh-unheard w (fresh (fresh t)) ∙ (fresh-unheard w (fresh t) ∙ fresh-unheard w t)))
-      (a, (b, (tt, begins-outer me closed w signal (calls.reason_of signal s))))
-      (if_same (is_same i source), (refl, (if_same (is_same i source), begins-coming me closed w signal (calls.reason_of signal s))))
+      (a, (b, (tt, begins-outer me closed w signal (pipe_calls.reason_of signal s))))
+      (if_same (is_same i source), (refl, (if_same (is_same i source), begins-coming me closed w signal (pipe_calls.reason_of signal s))))
 
-  pipe_where : (source dest : StreamId) (prevent : Prevent) (signal : Option SignalId) → is_same i source ≡ false → is_same j dest ≡ false → P (calls.for_signal_where signal (calls.pipe_unlocked source dest prevent signal) s)
+  pipe_where : (source dest : StreamId) (prevent : Prevent) (signal : Option SignalId) → is_same i source ≡ false → is_same j dest ≡ false → P (pipe_calls.for_signal_where signal (pipe_calls.pipe_unlocked source dest prevent signal) s)
   pipe_where source dest prevent signal a b = by signal
     where
-      free : P (calls.pipe_unlocked source dest prevent signal s)
+      free : P (pipe_calls.pipe_unlocked source dest prevent signal s)
       free =
-          either P (readable_looks.is_locked (source_at source s)) (calls.rejected s) (if writable_looks.is_locked (writable_at dest s) then calls.rejected s else calls.pipe_to source dest prevent signal s) (λ e. rejected)
-          (λ e. either P (writable_looks.is_locked (writable_at dest s)) (calls.rejected s) (calls.pipe_to source dest prevent signal s) (λ f. rejected) (λ f. pipe_to source dest prevent signal a b))
+          either P (readable_looks.is_locked (source_at source s)) (replying.rejected s) (if writable_looks.is_locked (writable_at dest s) then replying.rejected s else pipe_calls.pipe_to source dest prevent signal s) (λ e. rejected)
+          (λ e. either P (writable_looks.is_locked (writable_at dest s)) (replying.rejected s) (pipe_calls.pipe_to source dest prevent signal s) (λ f. rejected) (λ f. pipe_to source dest prevent signal a b))
 
-      by : (o : Option SignalId) → P (calls.for_signal_where o (calls.pipe_unlocked source dest prevent signal) s)
+      by : (o : Option SignalId) → P (pipe_calls.for_signal_where o (pipe_calls.pipe_unlocked source dest prevent signal) s)
       by None = free
-      by (Some g) = either P (has_signal g s) (calls.pipe_unlocked source dest prevent signal s) (calls.unsupported s) (λ e. free) (λ e. unchanged (Throws Unsupported))
+      by (Some g) = either P (has_signal g s) (pipe_calls.pipe_unlocked source dest prevent signal s) (replying.unsupported s) (λ e. free) (λ e. unchanged (Throws Unsupported))
 
   -- BYOB requests
 
-  request_by : (k : StreamId) (request : Option RequestId) (ds : List Descriptor) → P (calls.request_by k s request ds)
+  request_by : (k : StreamId) (request : Option RequestId) (ds : List Descriptor) → P (controller_calls.request_by k s request ds)
   request_by k request [] = unchanged (ReplyRequest None)
-  request_by k (Some q) (d ∷ ds) = unchanged (calls.request_by k s (Some q) (d ∷ ds)).reply
-  request_by k None (d ∷ ds) = quietly (calls.request_by k s None (d ∷ ds)) locks apart (λ w. refl) (tt, tt) (if_same (is_same i k), tt)
+  request_by k (Some q) (d ∷ ds) = unchanged (controller_calls.request_by k s (Some q) (d ∷ ds)).reply
+  request_by k None (d ∷ ds) = quietly (controller_calls.request_by k s None (d ∷ ds)) locks apart (λ w. refl) (tt, tt) (if_same (is_same i k), tt)
 
-  respond_unless : (k : StreamId) (b : List ℕ) (o : Option Fault) → P (calls.respond_unless k b s o)
+  respond_unless : (k : StreamId) (b : List ℕ) (o : Option Fault) → P (controller_calls.respond_unless k b s o)
   respond_unless k b None = does (OnByte k (RespondBytes b) ∷ []) (tt, tt) (if_same (is_same i k), tt)
-  respond_unless k b (Some fault) = unchanged (calls.thrown_by fault)
+  respond_unless k b (Some fault) = unchanged (controller_calls.thrown_by fault)
 
-  respond_to : (q : RequestId) (b : List ℕ) (o : Option StreamId) → P (calls.respond q b s o)
+  respond_to : (q : RequestId) (b : List ℕ) (o : Option StreamId) → P (controller_calls.respond q b s o)
   respond_to q b None = unchanged (Throws Unsupported)
   respond_to q b (Some k) =
-      either P (calls.is_request q (byte_at k s).request) (calls.respond_unless k b s (respond_throws (length b) (byte_at k s).stream.state (byte_at k s).descriptors)) (calls.throws_type_error s)
+      either P (controller_calls.is_request q (byte_at k s).request) (controller_calls.respond_unless k b s (respond_throws (length b) (byte_at k s).stream.state (byte_at k s).descriptors)) (replying.throws_type_error s)
       (λ e. respond_unless k b (respond_throws (length b) (byte_at k s).stream.state (byte_at k s).descriptors)) (λ e. unchanged (Throws TypeError))
 
-  get_byob_of : (k : StreamId) → not (is_same i k) ≡ true → P (calls.get_byob_of k s)
+  get_byob_of : (k : StreamId) → not (is_same i k) ≡ true → P (making_calls.get_byob_of k s)
   get_byob_of k l =
-      either P (has_byte k s) (calls.get_byob k s) (calls.throws_type_error s)
-      (λ e. quietly (calls.get_byob k s) (spare-append i j s.locks _ locks (rw l refl)) apart (λ w. fresh-unheard w s.promises) (not_false (is_same i k) l, tt) (if_same (is_same i k), tt))
+      either P (has_byte k s) (making_calls.get_byob k s) (replying.throws_type_error s)
+      (λ e. quietly (making_calls.get_byob k s) (spare-append i j s.locks _ locks (rw l refl)) apart (λ w. fresh-unheard w s.promises) (not_false (is_same i k) l, tt) (if_same (is_same i k), tt))
       (λ e. unchanged (Throws TypeError))
 
-  read_into_by : (room : List ℕ) (element least : ℕ) (n : ℕ) (o : Option Lock) → slice_get s.locks n ≡ o → P (calls.read_into_by room element least s o)
+  read_into_by : (room : List ℕ) (element least : ℕ) (n : ℕ) (o : Option Lock) → slice_get s.locks n ≡ o → P (lock_calls.read_into_by room element least s o)
   read_into_by room element least n o e =
-      either P (not (calls.is_view (length room) element && nat_eq least 1)) (calls.unsupported s) _ (λ c. unchanged (Throws Unsupported))
-      (λ c. either P (is_empty room) (calls.by_byob_reader (λ k. calls.rejected) calls.rejected s o) (calls.by_byob_reader (calls.read_into room element least) calls.rejected s o)
-      (λ d. by_byob (λ k. calls.rejected) calls.rejected (λ k n. rejected) rejected n o e)
-      (λ d. by_byob (calls.read_into room element least) calls.rejected (λ k n. promising (λ q. OnByte k (PullInto room element (least * element) (PromiseRequest q)) ∷ []) (tt, tt) (if_same (is_same i k), tt)) rejected n o e))
+      either P (not (lock_calls.is_view (length room) element && nat_eq least 1)) (replying.unsupported s) _ (λ c. unchanged (Throws Unsupported))
+      (λ c. either P (is_empty room) (lock_calls.by_byob_reader (λ k. replying.rejected) replying.rejected s o) (lock_calls.by_byob_reader (lock_calls.read_into room element least) replying.rejected s o)
+      (λ d. by_byob (λ k. replying.rejected) replying.rejected (λ k n. rejected) rejected n o e)
+      (λ d. by_byob (lock_calls.read_into room element least) replying.rejected (λ k n. promising (λ q. OnByte k (PullInto room element (least * element) (PromiseRequest q)) ∷ []) (tt, tt) (if_same (is_same i k), tt)) rejected n o e))
 
   -- the desired size of a branch of a tee isn't told
 
-  desired_by : (k : StreamId) (o : Owner) → P (calls.desired_by k s o)
-  desired_by k Host = unchanged (calls.desired_by k s Host).reply
-  desired_by k (HalfOf a) = unchanged (calls.desired_by k s (HalfOf a)).reply
+  desired_by : (k : StreamId) (o : Owner) → P (controller_calls.desired_by k s o)
+  desired_by k Host = unchanged (controller_calls.desired_by k s Host).reply
+  desired_by k (HalfOf a) = unchanged (controller_calls.desired_by k s (HalfOf a)).reply
   desired_by k (BranchOf a half) = unchanged (Throws Unsupported)
   desired_by k (EndOf c) = unchanged (Throws Unsupported)
 
   -- a tee of another stream
-  tee_of : (k : StreamId) → not (is_same i k) ≡ true → P (calls.tee_of k s)
+  tee_of : (k : StreamId) → not (is_same i k) ≡ true → P (making_calls.tee_of k s)
   tee_of k l =
-      either P (has_byte k s) (calls.unsupported s) _ (λ e. unchanged (Throws Unsupported))
-      (λ e. either P (is_teed k s) (calls.throws_type_error s) _ (λ t. unchanged (Throws TypeError))
+      either P (has_byte k s) (replying.unsupported s) _ (λ e. unchanged (Throws Unsupported))
+      (λ e. either P (is_teed k s) (replying.throws_type_error s) _ (λ t. unchanged (Throws TypeError))
       (λ t. either P (nat_lt (length s.streams + 1) most_streams) _ _
-      (λ m. quietly (calls.make_tee k (record { 0 = length s.streams }) (record { 0 = length s.streams + 1 }) s) (spare-append i j s.locks (Inner ∷ []) locks refl) apart
+      (λ m. quietly (making_calls.make_tee k (record { 0 = length s.streams }) (record { 0 = length s.streams + 1 }) s) (spare-append i j s.locks (Inner ∷ []) locks refl) apart
       (λ w. fresh-unheard w (fresh s.promises) ∙ fresh-unheard w s.promises) (not_false (is_same i k) l, (tt, (tt, (tt, tt)))) (if_same (is_same i k), (refl, (refl, (refl, tt)))))
       (λ m. unchanged TooMany)))
 
   -- calls on transform streams
 
-  starts-outer : (q : PromiseId) (k : StreamId) (start : StartBy) → IsOuter i j (calls.start_transform q k start)
+  starts-outer : (q : PromiseId) (k : StreamId) (start : StartBy) → IsOuter i j (making_calls.start_transform q k start)
   starts-outer q k Now = tt
   starts-outer q k Later = tt
 
-  starts-coming : (q : PromiseId) (k : StreamId) (start : StartBy) → IsSilent (coming (giver_at i s) i) (calls.start_transform q k start)
+  starts-coming : (q : PromiseId) (k : StreamId) (start : StartBy) → IsSilent (coming (giver_at i s) i) (making_calls.start_transform q k start)
   starts-coming q k Now = refl
   starts-coming q k Later = refl
 
-  make_transform : (kind : Kind) (m n : ℕ) (start : StartBy) → P (calls.make_transform kind m n start (record { 0 = length s.streams }) (record { 0 = length s.streams + 1 }) s)
+  make_transform : (kind : Kind) (m n : ℕ) (start : StartBy) → P (making_calls.make_transform kind m n start (record { 0 = length s.streams }) (record { 0 = length s.streams + 1 }) s)
   make_transform kind m n start =
       let t : Table = s.promises in
       let k : StreamId = record { 0 = length s.streams + 1 } in
-      quietly (calls.make_transform kind m n start (record { 0 = length s.streams }) k s) locks apart
+      quietly (making_calls.make_transform kind m n start (record { 0 = length s.streams }) k s) locks apart
       (λ w. fresh-unheard w (fresh (fresh (fresh t))) ∙ (fresh-unheard w (fresh (fresh t)) ∙ (fresh-unheard w (fresh t) ∙ fresh-unheard w t)))
       (tt, (tt, (tt, (tt, (starts-outer (next_id (fresh t)) k start, tt))))) (refl, (refl, (refl, (refl, (starts-coming (next_id (fresh t)) k start, tt)))))
 
-  fails_readable : (reason : Plain) (k : StreamId) (o : Owner) → P (calls.fail_readable_by reason k s o)
+  fails_readable : (reason : Plain) (k : StreamId) (o : Owner) → P (controller_calls.fail_readable_by reason k s o)
   fails_readable reason k Host = does (OnReadable k (ErrorReadable reason) ∷ []) (tt, tt) (if_same (is_same i k), tt)
   fails_readable reason k (HalfOf a) = does (OnTransform a (ErrorTransform reason) ∷ []) (tt, tt) (if_same (is_of (giver_at i s) a), tt)
   fails_readable reason k (BranchOf a half) = unchanged (Throws Unsupported)
   fails_readable reason k (EndOf c) = unchanged (Throws Unsupported)
 
-  fails_writable : (reason : Plain) (k : StreamId) (o : Owner) → P (calls.fail_writable_by reason k s o)
+  fails_writable : (reason : Plain) (k : StreamId) (o : Owner) → P (controller_calls.fail_writable_by reason k s o)
   fails_writable reason k Host = does (OnWritable k (ErrorIfNeeded reason) ∷ []) (tt, tt) (refl, tt)
   fails_writable reason k (HalfOf a) = unchanged (Throws Unsupported)
   fails_writable reason k (BranchOf a half) = unchanged (Throws Unsupported)
@@ -320,64 +325,64 @@ module _ (i j : StreamId) (p : PipeId) (s : Slots) (here : has_source i s ≡ tr
 
   -- calls on ports
 
-  opens : (side : Side) → P (calls.open_end side (record { 0 = length s.streams }) s)
-  opens ReadableSide = quietly (calls.open_end ReadableSide (record { 0 = length s.streams }) s) locks apart (λ w. refl) (tt, tt) (refl, tt)
-  opens WritableSide = quietly (calls.open_end WritableSide (record { 0 = length s.streams }) s) locks apart (λ w. fresh-unheard w s.promises) (tt, tt) (refl, tt)
+  opens : (side : Side) → P (pipe_calls.open_end side (record { 0 = length s.streams }) s)
+  opens ReadableSide = quietly (pipe_calls.open_end ReadableSide (record { 0 = length s.streams }) s) locks apart (λ w. refl) (tt, tt) (refl, tt)
+  opens WritableSide = quietly (pipe_calls.open_end WritableSide (record { 0 = length s.streams }) s) locks apart (λ w. fresh-unheard w s.promises) (tt, tt) (refl, tt)
 
   abbrev new : StreamId
   new = record { 0 = length s.streams }
 
-  sends_readable : (k : StreamId) → is_same i k ≡ false → P (calls.send_readable k new s)
+  sends_readable : (k : StreamId) → is_same i k ≡ false → P (pipe_calls.send_readable k new s)
   sends_readable k a =
       let b : is_same j new ≡ false = not-new j s.streams (sink-here j s sink) in
       let t : Table = fresh s.promises in
       let me : PipeId = record { 0 = length s.pipes } in
-      quietly (calls.send_readable k new s) (spare-append i j s.locks (Inner ∷ Inner ∷ []) locks refl) (apart-append _ (a, b))
+      quietly (pipe_calls.send_readable k new s) (spare-append i j s.locks (Inner ∷ Inner ∷ []) locks refl) (apart-append _ (a, b))
       (λ w. fresh-unheard w (fresh (fresh (fresh t))) ∙ (fresh-unheard w (fresh (fresh t)) ∙ (fresh-unheard w (fresh t) ∙ (fresh-unheard w t ∙ fresh-unheard w s.promises))))
       (tt, (a, (b, (tt, begins-outer me (next_id t) (next_id (fresh (fresh t))) None None))))
       (refl, (if_same (is_same i k), (refl, (if_same (is_same i k), begins-coming me (next_id t) (next_id (fresh (fresh t))) None None))))
 
-  sends_writable : (k : StreamId) → is_same j k ≡ false → P (calls.send_writable k new s)
+  sends_writable : (k : StreamId) → is_same j k ≡ false → P (pipe_calls.send_writable k new s)
   sends_writable k b =
       let a : is_same i new ≡ false = not-new i s.streams (source-here i s here) in
       let t : Table = s.promises in
       let me : PipeId = record { 0 = length s.pipes } in
-      quietly (calls.send_writable k new s) (spare-append i j s.locks (Inner ∷ Inner ∷ []) locks refl) (apart-append _ (a, b))
+      quietly (pipe_calls.send_writable k new s) (spare-append i j s.locks (Inner ∷ Inner ∷ []) locks refl) (apart-append _ (a, b))
       (λ w. fresh-unheard w (fresh (fresh (fresh t))) ∙ (fresh-unheard w (fresh (fresh t)) ∙ (fresh-unheard w (fresh t) ∙ fresh-unheard w t)))
       (tt, (a, (b, (tt, begins-outer me (next_id t) (next_id (fresh (fresh t))) None None))))
       (refl, (if_same (is_same i new), (refl, (if_same (is_same i new), begins-coming me (next_id t) (next_id (fresh (fresh t))) None None))))
 
-  sends : (k : StreamId) → is_same i k ≡ false → is_same j k ≡ false → P (calls.send k s)
+  sends : (k : StreamId) → is_same i k ≡ false → is_same j k ≡ false → P (pipe_calls.send k s)
   sends k a b =
       either P (has_source k s) _ _
-      (λ e. unlocked_readable k calls.throws_data_clone (λ source. calls.make_stream (calls.send_readable source)) (unchanged (Throws DataClone)) (either P (nat_lt (length s.streams) most_streams) _ _ (λ f. sends_readable k a) (λ f. unchanged TooMany)))
-      (λ e. unlocked_writable k calls.throws_data_clone (λ dest. calls.make_stream (calls.send_writable dest)) (unchanged (Throws DataClone)) (either P (nat_lt (length s.streams) most_streams) _ _ (λ f. sends_writable k b) (λ f. unchanged TooMany)))
+      (λ e. unlocked_readable k replying.throws_data_clone (λ source. making_calls.make_stream (pipe_calls.send_readable source)) (unchanged (Throws DataClone)) (either P (nat_lt (length s.streams) most_streams) _ _ (λ f. sends_readable k a) (λ f. unchanged TooMany)))
+      (λ e. unlocked_writable k replying.throws_data_clone (λ dest. making_calls.make_stream (pipe_calls.send_writable dest)) (unchanged (Throws DataClone)) (either P (nat_lt (length s.streams) most_streams) _ _ (λ f. sends_writable k b) (λ f. unchanged TooMany)))
 
   -- each call
   pub call-begins : (c : Call) → leaves i j c ≡ true → Begins i j p s (enters (giver_at i s) i c) (begin c s)
   unfolding begin
-  call-begins (MakeReadable mark size start) l = either P (nat_lt (length s.streams) most_streams) _ _ (λ e. quietly (calls.make_readable mark size start (record { 0 = length s.streams }) s) locks apart (λ w. refl) (tt, tt) (refl, tt)) (λ e. unchanged TooMany)
+  call-begins (MakeReadable mark size start) l = either P (nat_lt (length s.streams) most_streams) _ _ (λ e. quietly (making_calls.make_readable mark size start (record { 0 = length s.streams }) s) locks apart (λ w. refl) (tt, tt) (refl, tt)) (λ e. unchanged TooMany)
   call-begins (MakeBytes mark auto start) l =
-      either P (nat_lt (length s.streams) most_streams) _ _ (λ e. quietly (calls.make_bytes mark auto start (record { 0 = length s.streams }) s) locks apart (λ w. refl) (tt, tt) (refl, tt)) (λ e. unchanged TooMany)
-  call-begins (MakeWritable mark size start) l = either P (nat_lt (length s.streams) most_streams) _ _ (λ e. quietly (calls.make_writable mark size start (record { 0 = length s.streams }) s) locks apart (λ w. refl) (tt, tt) (refl, tt)) (λ e. unchanged TooMany)
+      either P (nat_lt (length s.streams) most_streams) _ _ (λ e. quietly (making_calls.make_bytes mark auto start (record { 0 = length s.streams }) s) locks apart (λ w. refl) (tt, tt) (refl, tt)) (λ e. unchanged TooMany)
+  call-begins (MakeWritable mark size start) l = either P (nat_lt (length s.streams) most_streams) _ _ (λ e. quietly (making_calls.make_writable mark size start (record { 0 = length s.streams }) s) locks apart (λ w. refl) (tt, tt) (refl, tt)) (λ e. unchanged TooMany)
   call-begins (MakeTransform kind m n start) l = either P (nat_lt (length s.streams + 1) most_streams) _ _ (λ e. make_transform kind m n start) (λ e. unchanged TooMany)
   call-begins (GetReader k) l =
-      unlocked_readable k calls.throws_type_error calls.get_reader (unchanged (Throws TypeError))
-      (quietly (calls.get_reader k s) (spare-append i j s.locks _ locks (rw l refl)) apart (λ w. fresh-unheard w s.promises) (not_false (is_same i k) l, tt) (if_same (is_same i k), tt))
-  call-begins (TeeCall k) l = unlocked_readable k calls.throws_type_error calls.tee_of (unchanged (Throws TypeError)) (tee_of k l)
-  call-begins (GetByob k) l = unlocked_readable k calls.throws_type_error calls.get_byob_of (unchanged (Throws TypeError)) (get_byob_of k l)
+      unlocked_readable k replying.throws_type_error making_calls.get_reader (unchanged (Throws TypeError))
+      (quietly (making_calls.get_reader k s) (spare-append i j s.locks _ locks (rw l refl)) apart (λ w. fresh-unheard w s.promises) (not_false (is_same i k) l, tt) (if_same (is_same i k), tt))
+  call-begins (TeeCall k) l = unlocked_readable k replying.throws_type_error making_calls.tee_of (unchanged (Throws TypeError)) (tee_of k l)
+  call-begins (GetByob k) l = unlocked_readable k replying.throws_type_error making_calls.get_byob_of (unchanged (Throws TypeError)) (get_byob_of k l)
   call-begins (GetWriter k) l =
-      unlocked_writable k calls.throws_type_error calls.get_writer (unchanged (Throws TypeError))
-      (quietly (calls.get_writer k s) (spare-append i j s.locks _ locks (rw l refl)) apart (λ w. fresh-unheard w (fresh s.promises) ∙ fresh-unheard w s.promises) (not_false (is_same j k) l, tt) (refl, tt))
-  call-begins (Cancel k reason) l = unlocked_readable k calls.rejected (calls.cancel reason) rejected (promising (λ q. OnReadable k (CancelStream reason q) ∷ []) (not_false (is_same i k) l, tt) (if_same (is_same i k), tt))
-  call-begins (CancelBy n reason) l = by_reader (calls.cancel reason) calls.rejected (λ k d. promising (λ q. OnReadable k (CancelStream reason q) ∷ []) (d, tt) (if_same (is_same i k), tt)) rejected n.0 (lock_at n s) refl
-  call-begins (Read n) l = by_default calls.read calls.rejected (λ k d. promising (λ q. OnReadable k (ReadChunk (PromiseRequest q)) ∷ []) (d, tt) (if_same (is_same i k), tt)) rejected n.0 (lock_at n s) refl
+      unlocked_writable k replying.throws_type_error making_calls.get_writer (unchanged (Throws TypeError))
+      (quietly (making_calls.get_writer k s) (spare-append i j s.locks _ locks (rw l refl)) apart (λ w. fresh-unheard w (fresh s.promises) ∙ fresh-unheard w s.promises) (not_false (is_same j k) l, tt) (refl, tt))
+  call-begins (Cancel k reason) l = unlocked_readable k replying.rejected (lock_calls.cancel reason) rejected (promising (λ q. OnReadable k (CancelStream reason q) ∷ []) (not_false (is_same i k) l, tt) (if_same (is_same i k), tt))
+  call-begins (CancelBy n reason) l = by_reader (lock_calls.cancel reason) replying.rejected (λ k d. promising (λ q. OnReadable k (CancelStream reason q) ∷ []) (d, tt) (if_same (is_same i k), tt)) rejected n.0 (lock_at n s) refl
+  call-begins (Read n) l = by_default lock_calls.read replying.rejected (λ k d. promising (λ q. OnReadable k (ReadChunk (PromiseRequest q)) ∷ []) (d, tt) (if_same (is_same i k), tt)) rejected n.0 (lock_at n s) refl
   call-begins (ReadInto n room element least) l = read_into_by room element least n.0 (lock_at n s) refl
-  call-begins (Write n v) l = by_writer (calls.write v) calls.rejected (λ k d. promising (λ q. OnWritable k (WriteChunk v q) ∷ []) (d, tt) (refl, tt)) rejected n.0 (lock_at n s) refl
-  call-begins (Close k) l = unlocked_writable k calls.rejected calls.close rejected (promising (λ q. OnWritable k (CloseStream q) ∷ []) (not_false (is_same j k) l, tt) (refl, tt))
-  call-begins (CloseBy n) l = by_writer calls.close calls.rejected (λ k d. promising (λ q. OnWritable k (CloseStream q) ∷ []) (d, tt) (refl, tt)) rejected n.0 (lock_at n s) refl
-  call-begins (Abort k reason) l = unlocked_writable k calls.rejected (calls.abort reason) rejected (abort_unless reason k (writable.answered_abort (writable_at k s)))
-  call-begins (AbortBy n reason) l = by_writer (calls.abort reason) calls.rejected (λ k d. abort_unless reason k (writable.answered_abort (writable_at k s))) rejected n.0 (lock_at n s) refl
+  call-begins (Write n v) l = by_writer (lock_calls.write v) replying.rejected (λ k d. promising (λ q. OnWritable k (WriteChunk v q) ∷ []) (d, tt) (refl, tt)) rejected n.0 (lock_at n s) refl
+  call-begins (Close k) l = unlocked_writable k replying.rejected lock_calls.close rejected (promising (λ q. OnWritable k (CloseStream q) ∷ []) (not_false (is_same j k) l, tt) (refl, tt))
+  call-begins (CloseBy n) l = by_writer lock_calls.close replying.rejected (λ k d. promising (λ q. OnWritable k (CloseStream q) ∷ []) (d, tt) (refl, tt)) rejected n.0 (lock_at n s) refl
+  call-begins (Abort k reason) l = unlocked_writable k replying.rejected (lock_calls.abort reason) rejected (abort_unless reason k (writable.answered_abort (writable_at k s)))
+  call-begins (AbortBy n reason) l = by_writer (lock_calls.abort reason) replying.rejected (λ k d. abort_unless reason k (writable.answered_abort (writable_at k s))) rejected n.0 (lock_at n s) refl
   call-begins (Closed n) l = closed_by (lock_at n s)
   call-begins (Ready n) l = ready_by (lock_at n s)
   call-begins (Release n) l = release n (lock_at n s)
@@ -386,18 +391,18 @@ module _ (i j : StreamId) (p : PipeId) (s : Slots) (here : has_source i s ≡ tr
   call-begins (Fail k reason) l =
       either P (has_readable k s) _ _ (λ e. fails_readable reason k (readable_at k s).owner)
       (λ e. either P (has_byte k s) _ _ (λ f. does (OnReadable k (ErrorReadable reason) ∷ []) (tt, tt) (if_same (is_same i k), tt))
-      (λ f. for_writable k (λ s. calls.fail_writable_by reason k s (writable_at k s).owner) (fails_writable reason k (writable_at k s).owner)))
+      (λ f. for_writable k (λ s. controller_calls.fail_writable_by reason k s (writable_at k s).owner) (fails_writable reason k (writable_at k s).owner)))
   call-begins (Terminate k) l = terminate_call i j p s here sink halved ended locks apart k
   call-begins (Request k) l = either P (has_byte k s) _ _ (λ e. request_by k (byte_at k s).request (byte_at k s).descriptors) (λ e. unchanged (Throws Unsupported))
   call-begins (Respond q b) l = respond_to q b (stream_of_request q s)
-  call-begins (Desired k) l = for_source k (calls.desired k) (desired_by k (owner_at k s))
-  call-begins (DesiredBy n) l = by_writer calls.desired_of_writer calls.throws_type_error (λ k d. unchanged (calls.desired_of_writer k s).reply) (unchanged (Throws TypeError)) n.0 (lock_at n s) refl
+  call-begins (Desired k) l = for_source k (controller_calls.desired k) (desired_by k (owner_at k s))
+  call-begins (DesiredBy n) l = by_writer controller_calls.desired_of_writer replying.throws_type_error (λ k d. unchanged (controller_calls.desired_of_writer k s).reply) (unchanged (Throws TypeError)) n.0 (lock_at n s) refl
   call-begins (Pipe source dest prevent signal) l =
       let a = not_false (is_same i source) (and_left (not (is_same i source)) (not (is_same j dest)) l) in
       let b = not_false (is_same j dest) (and_right (not (is_same i source)) (not (is_same j dest)) l) in
-      for_source source (calls.for_writable dest (calls.for_signal_where signal (calls.pipe_unlocked source dest prevent signal)))
-      (for_writable dest (calls.for_signal_where signal (calls.pipe_unlocked source dest prevent signal)) (pipe_where source dest prevent signal a b))
-  call-begins MakeSignal l = quietly (calls.make_signal s) locks apart (λ w. refl) tt tt
+      for_source source (replying.for_writable dest (pipe_calls.for_signal_where signal (pipe_calls.pipe_unlocked source dest prevent signal)))
+      (for_writable dest (pipe_calls.for_signal_where signal (pipe_calls.pipe_unlocked source dest prevent signal)) (pipe_where source dest prevent signal a b))
+  call-begins MakeSignal l = quietly (pipe_calls.make_signal s) locks apart (λ w. refl) tt tt
   call-begins (Trigger a reason) l = either P (has_signal a s) _ _ (λ e. does (OnSignal a (TriggerSignal reason) ∷ []) (tt, tt) (refl, tt)) (λ e. unchanged (Throws Unsupported))
   call-begins (Send k) l =
       let a = not_false (is_same i k) (and_left (not (is_same i k)) (not (is_same j k)) l) in
@@ -412,7 +417,7 @@ module _ (i j : StreamId) (p : PipeId) (s : Slots) (here : has_source i s ≡ tr
   call-begins (Settle h answer) l = settle_host h answer (host_at h s)
   call-begins (State k) l =
       either P (has_source k s) _ _ (λ e. unchanged (ReplyState (readable_looks.state_of (source_at k s))))
-      (λ e. for_writable k (λ s. calls.replies (ReplyState (writable_looks.state_of (writable_at k s))) s) (unchanged (ReplyState (writable_looks.state_of (writable_at k s)))))
+      (λ e. for_writable k (λ s. replying.replies (ReplyState (writable_looks.state_of (writable_at k s))) s) (unchanged (ReplyState (writable_looks.state_of (writable_at k s)))))
   call-begins Step l = unchanged ReplyDone
 
 -- no call but a tee of the source makes one that has it
@@ -424,7 +429,7 @@ untied-append i (x ∷ xs) y u n =
     let b = untied-append i xs y (and_right (not (is_same i x.source)) (all_untied i xs) u) n in
     rw (a, b) refl
 
-port-tees : (s : Slots) (side : Side) → (calls.open_end side (record { 0 = length s.streams }) s).done.slots.tees ≡ s.tees
+port-tees : (s : Slots) (side : Side) → (pipe_calls.open_end side (record { 0 = length s.streams }) s).done.slots.tees ≡ s.tees
 port-tees s ReadableSide = refl
 port-tees s WritableSide = refl
 

@@ -29,8 +29,10 @@ use Rattle.ws_steps.specs.declared.transform.TransformOperation.{TransformOperat
 use Rattle.ws_steps.specs.declared.transform.TransformOperation.TheVariants as names
 use Rattle.ws_steps.specs.declared.writable.WritableState.{WritableState}
 use Rattle.ws_steps.specs.Bytes as byte
-use Rattle.ws_steps.specs.Calls as calls
-use Rattle.ws_steps.specs.Calls.{Begun, begin}
+use Rattle.ws_steps.specs.Begun as replying
+use Rattle.ws_steps.specs.ControllerCalls as controller_calls
+use Rattle.ws_steps.specs.Begun.{Begun}
+use Rattle.ws_steps.specs.Calls.{begin}
 use Rattle.ws_steps.specs.Histories.{along}
 use Rattle.ws_steps.specs.Jobs.{job_effects, job_begun, begin_job}
 use Rattle.ws_steps.specs.Operations.{transform_operation}
@@ -45,7 +47,7 @@ use Rattle.ws_flow.specs.Told.{Open, Closed, Told, told, then_told}
 use Rattle.ws_flow.proofs.Told.{then_assoc, then_empty}
 use Rattle.ws_laws.proofs.Lists.{Each, each-append}
 use Rattle.ws_laws.proofs.PipeDoes.{PipeCauses}
-use Rattle.ws_laws.proofs.Rows.{Causes, SignalCauses, row-causes}
+use Rattle.ws_laws.proofs.Causes.{Causes, SignalCauses, row-causes}
 use Rattle.ws_laws.proofs.Tables.{is_same-refl, byte_there}
 use Rattle.ws_laws.proofs.Walker as walker
 use Rattle.ws_laws.proofs.Walker.{IsHistory}
@@ -388,15 +390,15 @@ module _ (i : StreamId) (v : Value) (s : Slots) (there : has_source i s ≡ true
 
   -- it asks the stream, or its transform stream, or it throws
   pub data Asks : Type 0 where
-    Does : (e : Effect) → IsUndelivered e → begin c s ≡ calls.does (e ∷ []) s → coming (giver_at i s) i e ≡ told (v ∷ []) Open → Asks
-    Refuses : begin c s ≡ calls.throws_type_error s → Stopped → Asks
-    Lacks : begin c s ≡ calls.unsupported s → lets_in (giver_at i s) v ≡ silence → Asks
+    Does : (e : Effect) → IsUndelivered e → begin c s ≡ replying.does (e ∷ []) s → coming (giver_at i s) i e ≡ told (v ∷ []) Open → Asks
+    Refuses : begin c s ≡ replying.throws_type_error s → Stopped → Asks
+    Lacks : begin c s ≡ replying.unsupported s → lets_in (giver_at i s) v ≡ silence → Asks
 
   module _ (none : has_byte i s ≡ false) where
     default : has_readable i s ≡ true
     default = is_default (slice_get s.streams i.0) there none
 
-    begins-so : begin c s ≡ calls.enqueue_by v i s (readable_at i s).owner
+    begins-so : begin c s ≡ controller_calls.enqueue_by v i s (readable_at i s).owner
     unfolding begin
     begins-so = rw (none, default) refl
 
@@ -426,7 +428,7 @@ module _ (i : StreamId) (v : Value) (s : Slots) (there : has_source i s ≡ true
         Lacks (begins-so ∙ rw (← e) refl) (rw (gives, own) refl)
 
   module _ (here : has_byte i s ≡ true) where
-    begins-bytes : begin c s ≡ calls.enqueue_bytes i s v
+    begins-bytes : begin c s ≡ controller_calls.enqueue_bytes i s v
     unfolding begin
     begins-bytes = rw here refl
 
@@ -455,16 +457,16 @@ module _ (i : StreamId) (v : Value) (s : Slots) (there : has_source i s ≡ true
 
   lets-by : Asks → EnqueueLetsIn i v s
   lets-by (Does e un is brings) = record {
-    done = λ r. lets-so (calls.does (e ∷ []) s) (told (v ∷ []) Open) is refl (record { source = h; undelivered = (un, tt); lone = tt; sums = inl (then_empty (coming (giver_at i s) i e) ∙ brings) });
+    done = λ r. lets-so (replying.does (e ∷ []) s) (told (v ∷ []) Open) is refl (record { source = h; undelivered = (un, tt); lone = tt; sums = inl (then_empty (coming (giver_at i s) i e) ∙ brings) });
     throws = λ n. absurd (n (ap (λ (b : Begun). b.reply) is));
   }
   lets-by (Lacks is none) = record {
     done = λ r. let no : Throws Unsupported ≡ ReplyDone = sym (ap (λ (b : Begun). b.reply) is) ∙ r in cc;
-    throws = λ n. (lets-so (calls.unsupported s) silence is refl (record { source = h; undelivered = tt; lone = tt; sums = inl refl }), inl none);
+    throws = λ n. (lets-so (replying.unsupported s) silence is refl (record { source = h; undelivered = tt; lone = tt; sums = inl refl }), inl none);
   }
   lets-by (Refuses is ended) = record {
     done = λ r. let no : Throws TypeError ≡ ReplyDone = sym (ap (λ (b : Begun). b.reply) is) ∙ r in cc;
-    throws = λ n. (lets-so (calls.throws_type_error s) silence is refl (record { source = h; undelivered = tt; lone = tt; sums = inl refl }), ended);
+    throws = λ n. (lets-so (replying.throws_type_error s) silence is refl (record { source = h; undelivered = tt; lone = tt; sums = inl refl }), ended);
   }
 
 pub each_enqueue_lets_in : EachEnqueueLetsIn

@@ -20,7 +20,7 @@ use Rattle.ws_steps.specs.Slots.{Slots}
 use Rattle.ws_steps.specs.Turns.{row}
 use Rattle.ws_laws.proofs.Lists.{Each, each-append}
 use Rattle.ws_laws.proofs.PipeDoes.{PipeCauses}
-use Rattle.ws_laws.proofs.Rows.{Causes, SignalCauses, row-causes}
+use Rattle.ws_laws.proofs.Causes.{Causes, SignalCauses, row-causes}
 use Rattle.ws_laws.proofs.TransformDoes.{TransformCauses}
 use Rattle.ws_link_laws.specs.Sound.{all_untied}
 use Rattle.ws_link_laws.proofs.Outer.{IsOuter}

@@ -7,7 +7,10 @@ use Rattle.ws_steps.specs.declared.calls.Reply.{Reply}
 use Rattle.ws_steps.specs.declared.calls.Reply.TheVariants.{Promise as ReplyPromise}
 use Rattle.ws_steps.specs.declared.locks.Lock.{Lock}
 use Rattle.ws_steps.specs.declared.promises.Job.{Job}
-use Rattle.ws_steps.specs.Calls.{Begun, begin, add_stream, open_end}
+use Rattle.ws_steps.specs.Begun.{Begun}
+use Rattle.ws_steps.specs.MakingCalls.{add_stream}
+use Rattle.ws_steps.specs.PipeCalls.{open_end}
+use Rattle.ws_steps.specs.Calls.{begin}
 use Rattle.ws_steps.specs.declared.port.Side.{Side}
 use Rattle.ws_steps.specs.declared.port.Side.TheVariants.{Readable as ReadableSide, Writable as WritableSide}
 use Rattle.ws_laws.proofs.Ended.{port_shape, ended-stays}

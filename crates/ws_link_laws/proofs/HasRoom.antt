@@ -16,7 +16,7 @@ use Rattle.ws_steps.specs.declared.queue.Queued.{Queued}
 use Rattle.ws_steps.specs.declared.readable.SizeBy.TheVariants.{Count}
 use Rattle.ws_steps.specs.declared.writable.WriteRecord.{WriteRecord}
 use Rattle.ws_steps.specs.declared.writable.WriteRecord.TheVariants.{Chunk, InFlight, CloseMark}
-use Rattle.ws_steps.specs.Calls as calls
+use Rattle.ws_steps.specs.PipeCalls as pipe_calls
 use Rattle.ws_steps.specs.Calls.{begin, named}
 use Rattle.ws_steps.specs.Jobs.{job_effects, job_begun, begin_job}
 use Rattle.ws_steps.specs.Pipes as pipe
@@ -152,7 +152,7 @@ each_link_has_room i j p s entries l h e = let k = run-room i j p entries s l e 
 
 -- a new pipe
 
-begins-more : (j : StreamId) (me : PipeId) (a b : PromiseId) (signal : Option SignalId) (reason : Option Plain) → all (more_on j) (calls.pipe_begins me a b signal reason) ≡ 0
+begins-more : (j : StreamId) (me : PipeId) (a b : PromiseId) (signal : Option SignalId) (reason : Option Plain) → all (more_on j) (pipe_calls.pipe_begins me a b signal reason) ≡ 0
 begins-more j me a b signal (Some r) = refl
 begins-more j me a b None None = refl
 begins-more j me a b (Some g) None = refl
@@ -162,7 +162,7 @@ new-room i j prevent signal s free there mark size =
     let p : PipeId = record { 0 = length s.pipes } in
     let d : Done = begins.d i j prevent signal s free there in
     let at : pipe_at p d.slots ≡ begins.y i j prevent signal s free there = begins.at i j prevent signal s free there in
-    let n = begins-more j p (next_id s.promises) (next_id (fresh (fresh s.promises))) signal (calls.reason_of signal s) in
+    let n = begins-more j p (next_id s.promises) (next_id (fresh (fresh s.promises))) signal (pipe_calls.reason_of signal s) in
     let sized : Sized (writable_at j s).queue = rw free.queue tt in
     let total : total_of (writable_at j s).queue ≡ 0 = ap total_of free.queue in
     let none : all (more_on j) d.caused ≡ 0 = omega (arith, n) in

@@ -41,7 +41,7 @@ use Rattle.ws_steps.specs.Writable as writable
 use Rattle.ws_steps.specs.Writable.{hand_on_first, hand_on}
 use Rattle.ws_laws.proofs.Lists.{Each, each-append}
 use Rattle.ws_laws.proofs.PipeDoes.{PipeCauses}
-use Rattle.ws_laws.proofs.Rows.{Causes, SignalCauses, row-causes}
+use Rattle.ws_laws.proofs.Causes.{Causes, SignalCauses, row-causes}
 use Rattle.ws_laws.proofs.Tables.{either, writable_acts}
 use Rattle.ws_laws.proofs.TransformDoes.{TransformCauses}
 use Rattle.ws_laws.proofs.WritableDoes.{IsHandOn, others-do}

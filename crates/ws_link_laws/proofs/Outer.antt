@@ -12,7 +12,7 @@ use Rattle.ws_steps.specs.declared.pipes.PipeOperation.TheVariants.{Abort as Abo
 use Rattle.ws_steps.specs.declared.readable.ReadableOperation.TheVariants.{InitializeReader, Read as ReadChunk, Cancel as CancelStream, CancelIfReadable}
 use Rattle.ws_steps.specs.declared.transform.TransformOperation.TheVariants.{TransformChunk, SinkClose}
 use Rattle.ws_steps.specs.declared.writable.WritableOperation.TheVariants.{SetUpWriter, Write as WriteChunk, Close as CloseStream, ClosePropagating, HandOn}
-use Rattle.ws_steps.specs.Calls.{Begun}
+use Rattle.ws_steps.specs.Begun.{Begun}
 use Rattle.ws_steps.specs.Histories.{is_same}
 use Rattle.ws_steps.specs.Queues.{is_empty}
 use Rattle.ws_steps.specs.Slots.{Slots, Stream, has_source, has_writable, owner_at}

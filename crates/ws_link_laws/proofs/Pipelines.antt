@@ -16,8 +16,9 @@ use Rattle.ws_steps.specs.declared.readable.SizeBy.{SizeBy}
 use Rattle.ws_steps.specs.declared.readable.SizeBy.TheVariants.{Count}
 use Rattle.ws_steps.specs.declared.transform.Kind.TheVariants.{Host as HostKind}
 use Rattle.ws_steps.specs.declared.transform.TransformId.{TransformId}
-use Rattle.ws_steps.specs.Calls as calls
-use Rattle.ws_steps.specs.Calls.{Begun, begin, named}
+use Rattle.ws_steps.specs.MakingCalls as making_calls
+use Rattle.ws_steps.specs.Begun.{Begun}
+use Rattle.ws_steps.specs.Calls.{begin, named}
 use Rattle.ws_steps.specs.Jobs.{begin_job}
 use Rattle.ws_steps.specs.Operations.{pipe_operation, tee_operation}
 use Rattle.ws_steps.specs.Pipes as pipe
@@ -30,7 +31,7 @@ use Rattle.ws_steps.specs.Turns.{row, turns, call_host, performed}
 use Rattle.ws_steps.specs.Writable as writable
 use Rattle.ws_laws.proofs.Halves.{Among, Halved, call-among, get-last, halved-stays}
 use Rattle.ws_laws.proofs.Lists.{Each}
-use Rattle.ws_laws.proofs.Rows.{row-pipes, row-tees}
+use Rattle.ws_laws.proofs.Apart.{row-pipes, row-tees}
 use Rattle.ws_laws.proofs.Shapes.{transform_shapes}
 use Rattle.ws_laws.proofs.Tables.{writable_there, place_last}
 use Rattle.ws_room_laws.proofs.Turns.{performed-kept}
@@ -172,7 +173,7 @@ module _ (i : StreamId) (s : Slots) (o : Opened i s) (n : ℕ) (y : SizeBy) (a :
   c = MakeWritable n y a
 
   abbrev b : Begun
-  b = calls.make_writable n y a j s
+  b = making_calls.make_writable n y a j s
 
   is : begin c s ≡ b
   unfolding begin
@@ -204,7 +205,7 @@ module _ (i : StreamId) (s : Slots) (o : Opened i s) (m n : ℕ) (a : StartBy) (
   ct = MakeTransform HostKind m n a
 
   abbrev bt : Begun
-  bt = calls.make_transform HostKind m n a jw jr s
+  bt = making_calls.make_transform HostKind m n a jw jr s
 
   abbrev z : Slots
   z = bt.done.slots
@@ -248,7 +249,7 @@ module _ (i : StreamId) (s : Slots) (o : Opened i s) (m n : ℕ) (a : StartBy) (
   far : (k : StreamId) → Each (IsFar k jw) bt.done.caused
   far k = (tt, (tt, (tt, (tt, (starts a (next_id (fresh s.promises)), tt)))))
     where
-      starts : (x : StartBy) (q : PromiseId) → IsFar k jw (calls.start_transform q jr x)
+      starts : (x : StartBy) (q : PromiseId) → IsFar k jw (making_calls.start_transform q jr x)
       starts Now q = tt
       starts Later q = tt
 

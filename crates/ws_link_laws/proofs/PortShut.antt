@@ -22,7 +22,9 @@ use Rattle.ws_steps.specs.declared.promises.Job.{Job}
 use Rattle.ws_steps.specs.declared.readable.ReadRequest.TheVariants.{Promise, Pipe as PipeRequest, Tee as TeeRequest}
 use Rattle.ws_steps.specs.declared.readable.ReadableOperation.{ReadableOperation}
 use Rattle.ws_steps.specs.declared.transform.TransformId.{TransformId}
-use Rattle.ws_steps.specs.Calls.{Begun, begin, add_stream}
+use Rattle.ws_steps.specs.Begun.{Begun}
+use Rattle.ws_steps.specs.MakingCalls.{add_stream}
+use Rattle.ws_steps.specs.Calls.{begin}
 use Rattle.ws_steps.specs.Cross as cross
 use Rattle.ws_steps.specs.Histories.{is_same}
 use Rattle.ws_steps.specs.Jobs.{job_effects}
@@ -41,7 +43,8 @@ use Rattle.ws_laws.proofs.Halves.{get-stays, get-either}
 use Rattle.ws_laws.proofs.Lists.{Each, each-append, each-map}
 use Rattle.ws_laws.proofs.PipeDoes.{PipeCauses}
 use Rattle.ws_laws.proofs.PortDoes.{PortCauses, port-causes}
-use Rattle.ws_laws.proofs.Rows.{row-causes, row-ports, row-streams}
+use Rattle.ws_laws.proofs.Apart.{row-ports, row-streams}
+use Rattle.ws_laws.proofs.Causes.{row-causes}
 use Rattle.ws_laws.proofs.Shapes.{ReadableOf, BytesOf, WritableOf, stream_shape, stream_shapes, map-there}
 use Rattle.ws_laws.proofs.Tables.{either, eq_numbers, is_same-refl, same_id, byte_there, writable_there, on_source-readable, on_readable-same, readable_acts}
 use Rattle.ws_laws.proofs.TeeDoes.{TeeCauses}

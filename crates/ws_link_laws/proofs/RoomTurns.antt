@@ -39,7 +39,8 @@ use Rattle.ws_steps.proofs.PromiseLaws.{slice_get-set_other}
 use Rattle.ws_flow.specs.Told.{Told, then_told}
 use Rattle.ws_laws.proofs.Lists.{Each, each-map, append_none}
 use Rattle.ws_laws.proofs.PipeDoes.{PipeCauses, pipe-causes, is_looking}
-use Rattle.ws_laws.proofs.Rows.{Causes, SignalCauses, IsNoPipe, IsApart, row-causes, row-pipes, row-streams}
+use Rattle.ws_laws.proofs.Apart.{IsNoPipe, IsApart, row-pipes, row-streams}
+use Rattle.ws_laws.proofs.Causes.{Causes, SignalCauses, row-causes}
 use Rattle.ws_laws.proofs.Tables.{either, is_same-refl, same_id, eq_numbers, unequal_numbers, writable_acts, on_byte-writable, on_source-writable, on_writable-same, on_writable-other}
 use Rattle.ws_laws.proofs.TransformDoes.{TransformCauses}
 use Rattle.ws_laws.proofs.Truth.{and_right}

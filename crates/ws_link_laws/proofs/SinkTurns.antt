@@ -23,7 +23,8 @@ use Rattle.ws_steps.specs.WritableHistory.{Writes}
 use Rattle.ws_flow.specs.Told.{Told, then_told, IsShortOf}
 use Rattle.ws_flow.proofs.Told.{short_refl}
 use Rattle.ws_laws.proofs.Lists.{Each, each-append}
-use Rattle.ws_laws.proofs.Rows.{row-causes, row-pipes}
+use Rattle.ws_laws.proofs.Apart.{row-pipes}
+use Rattle.ws_laws.proofs.Causes.{row-causes}
 use Rattle.ws_laws.proofs.Tables.{is_same-refl, same_id, writable_acts, on_writable-same, on_writable-other, on_writable-source, on_writable-look}
 use Rattle.ws_pipe_laws.proofs.AtSource.{off-only, row-off}
 use Rattle.ws_pipe_laws.proofs.PassingRuns.{row-few}

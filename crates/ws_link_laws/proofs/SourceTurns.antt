@@ -22,7 +22,8 @@ use Rattle.ws_steps.specs.Turns.{row}
 use Rattle.ws_flow.specs.Told.{Lost, Told, told, then_told, IsShortOf}
 use Rattle.ws_flow.proofs.Told.{short_refl}
 use Rattle.ws_laws.proofs.Lists.{Each, each-append}
-use Rattle.ws_laws.proofs.Rows.{IsNoPipe, row-causes, row-pipes}
+use Rattle.ws_laws.proofs.Apart.{IsNoPipe, row-pipes}
+use Rattle.ws_laws.proofs.Causes.{row-causes}
 use Rattle.ws_laws.proofs.Tables.{is_same-refl, same_id, readable_acts, byte_acts, readable_there, byte_there, no_byte_there, on_readable-same, on_byte-same, on_byte-other, on_byte-writable, on_source-byte, on_source-readable, on_source-other, on_source-writable}
 use Rattle.ws_pipe_laws.proofs.AtSource.{Only, off, off-only, row-off}
 use Rattle.ws_pipe_laws.proofs.PassingRuns.{row-few}

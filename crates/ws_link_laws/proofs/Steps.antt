@@ -14,7 +14,8 @@ use Rattle.ws_steps.specs.declared.locks.Lock.{Lock}
 use Rattle.ws_steps.specs.declared.pipes.Phase.{Phase}
 use Rattle.ws_steps.specs.declared.pipes.Phase.TheVariants.{Flowing, Waiting, Acting, Over}
 use Rattle.ws_steps.specs.declared.promises.Job.{Job}
-use Rattle.ws_steps.specs.Calls.{begin, named, add_stream}
+use Rattle.ws_steps.specs.MakingCalls.{add_stream}
+use Rattle.ws_steps.specs.Calls.{begin, named}
 use Rattle.ws_steps.specs.Jobs.{job_effects, job_begun, begin_job}
 use Rattle.ws_steps.specs.Pipes as pipe
 use Rattle.ws_steps.specs.Promises.{next_job, after_next_job, watch}
@@ -30,7 +31,7 @@ use Rattle.ws_laws.proofs.Begin.{begin-makes}
 use Rattle.ws_laws.proofs.Ended.{ended-stays, port_shape}
 use Rattle.ws_laws.proofs.Halves.{call-among, halved-stays}
 use Rattle.ws_laws.proofs.Lists.{Each, each-map}
-use Rattle.ws_laws.proofs.Rows.{row-locks}
+use Rattle.ws_laws.proofs.Apart.{row-locks}
 use Rattle.ws_laws.proofs.Shapes.{stream_shape, transform_shape, tee_shape}
 use Rattle.ws_laws.proofs.Walker as walker
 use Rattle.ws_laws.proofs.Tables.{writable_there}

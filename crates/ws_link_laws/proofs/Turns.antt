@@ -27,7 +27,8 @@ use Rattle.ws_steps.specs.Turns.{row, pull_algorithm, cancel_algorithm, write_al
 use Rattle.ws_flow.specs.Told.{Closed, Told, told, then_told, IsShortOf}
 use Rattle.ws_flow.proofs.Told.{then_empty, short_refl, short_left, short_trans}
 use Rattle.ws_laws.proofs.Lists.{Each, each-append}
-use Rattle.ws_laws.proofs.Rows.{IsApart, IsNoPipe, SignalCauses, row-causes, row-pipes, row-streams}
+use Rattle.ws_laws.proofs.Apart.{IsApart, IsNoPipe, row-pipes, row-streams}
+use Rattle.ws_laws.proofs.Causes.{SignalCauses, row-causes}
 use Rattle.ws_laws.proofs.Tables.{is_same-refl, same_id}
 use Rattle.ws_pipe_laws.proofs.AtSource.{off-only, row-off}
 use Rattle.ws_pipe_laws.proofs.PassingRuns.{row-few}

@@ -23,7 +23,7 @@ use Rattle.ws_steps.specs.Writable as writable
 use Rattle.ws_steps.specs.Writable.{update_backpressure, refresh_backpressure, reject_close_and_closed, finish_erroring, start_erroring, deal_with_rejection, controller_error_if_needed, process_write, process_close, advance_queue, hand_on, write_settled, finish_in_flight_close, finish_in_flight_close_with_error, close_settled, abort_settled, stream_abort, abort_if_writable, writer_release}
 use Rattle.ws_laws.proofs.Lists.{Each, each-append, each-map}
 use Rattle.ws_laws.proofs.PipeDoes.{PipeCauses, pipe-causes}
-use Rattle.ws_laws.proofs.Rows.{IsApart, IsNoPipe, row-pipes, row-streams, row-locks}
+use Rattle.ws_laws.proofs.Apart.{IsApart, IsNoPipe, row-pipes, row-streams, row-locks}
 use Rattle.ws_laws.proofs.Tables.{readable_acts, byte_acts, writable_acts, is_same-refl, same_id, readable_there, byte_there, on_readable-same, on_byte-same, on_byte-other, on_byte-writable, on_source-byte, on_source-readable, on_source-other, on_source-writable, on_writable-same, on_writable-other, on_writable-source, on_writable-look}
 use Rattle.ws_laws.proofs.Truth.{and_left, and_right}
 use Rattle.ws_room_laws.proofs.Turns.{performed-kept}

@@ -20,7 +20,8 @@ use Rattle.ws_steps.specs.Turns.{row, on_source}
 use Rattle.ws_steps.proofs.PromiseLaws.{slice_get-set_other}
 use Rattle.ws_laws.proofs.Lists.{Each, each-append}
 use Rattle.ws_laws.proofs.PipeDoes.{pipe-causes}
-use Rattle.ws_laws.proofs.Rows.{Causes, IsApart, IsNoPipe, IsNoTee, row-causes, row-pipes, row-streams}
+use Rattle.ws_laws.proofs.Apart.{IsApart, IsNoPipe, IsNoTee, row-pipes, row-streams}
+use Rattle.ws_laws.proofs.Causes.{Causes, row-causes}
 use Rattle.ws_laws.proofs.Tables.{either, is_same-refl, same_id, eq_numbers, unequal_numbers, readable_acts, byte_acts, readable_there, byte_there, on_readable-same, on_byte-same, on_byte-other, on_source-other, on_writable-same, on_writable-other}
 use Rattle.ws_laws.proofs.TransformDoes.{TransformCauses}
 use Rattle.ws_read_laws.proofs.Line.{operation-reader}

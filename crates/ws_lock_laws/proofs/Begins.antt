@@ -17,8 +17,12 @@ use Rattle.ws_steps.specs.declared.{effects.Owner.{Owner}, effects.Owner.TheVari
 use Rattle.ws_steps.specs.declared.readable.ReadableOperation.TheVariants.{InitializeReader, ReleaseReader, Disturb}
 use Rattle.ws_steps.specs.declared.writable.{WritableOperation.TheVariants.{SetUpWriter, ReleaseWriter}, Writer.{Writer}}
 use Rattle.ws_steps.specs.Histories.{is_same}
-use Rattle.ws_steps.specs.Calls as calls
-use Rattle.ws_steps.specs.Calls.{Begun, begin, add_stream}
+use Rattle.ws_steps.specs.MakingCalls as making_calls
+use Rattle.ws_steps.specs.LockCalls as lock_calls
+use Rattle.ws_steps.specs.PipeCalls as pipe_calls
+use Rattle.ws_steps.specs.Begun.{Begun}
+use Rattle.ws_steps.specs.MakingCalls.{add_stream}
+use Rattle.ws_steps.specs.Calls.{begin}
 use Rattle.ws_steps.specs.Jobs.{job_effects}
 use Rattle.ws_steps.specs.Pipes as pipe
 use Rattle.ws_steps.specs.Promises.{Table, next_id, fresh, is_pending_at}
@@ -193,37 +197,37 @@ writable-stays None xs x n is there = cc
 writable-stays (Some y) xs x n is there = get-stays xs (x ∷ []) n y is ∙ sym is
 
 module _ (i : StreamId) where
-  get_reader-balanced : (d : Side) (j : StreamId) (s : Slots) → is_some (source_at j s).reader ≡ false → Balanced d i s [] → Balanced d i (calls.get_reader j s).done.slots (calls.get_reader j s).done.caused
+  get_reader-balanced : (d : Side) (j : StreamId) (s : Slots) → is_some (source_at j s).reader ≡ false → Balanced d i s [] → Balanced d i (making_calls.get_reader j s).done.slots (making_calls.get_reader j s).done.caused
   get_reader-balanced Reading j s free k =
       let n = locks-append Reading i s.locks (Reader (Some j) (next_id s.promises)) in
-      enters Reading i s k (calls.get_reader j s).done.slots _ (is_same i j) (omega (arith, n)) refl (omega arith) refl
+      enters Reading i s k (making_calls.get_reader j s).done.slots _ (is_same i j) (omega (arith, n)) refl (omega arith) refl
       (λ e. let f = free_reader (slice_get s.streams j.0) free in rw (same_id i j e) f)
   get_reader-balanced Writing j s free k =
       let n = locks-append Writing i s.locks (Reader (Some j) (next_id s.promises)) in
-      enters Writing i s k (calls.get_reader j s).done.slots _ false (omega (arith, n)) refl refl refl (λ e. absurd (cc))
+      enters Writing i s k (making_calls.get_reader j s).done.slots _ false (omega (arith, n)) refl refl refl (λ e. absurd (cc))
 
-  get_byob-balanced : (d : Side) (j : StreamId) (s : Slots) → is_some (source_at j s).reader ≡ false → Balanced d i s [] → Balanced d i (calls.get_byob j s).done.slots (calls.get_byob j s).done.caused
+  get_byob-balanced : (d : Side) (j : StreamId) (s : Slots) → is_some (source_at j s).reader ≡ false → Balanced d i s [] → Balanced d i (making_calls.get_byob j s).done.slots (making_calls.get_byob j s).done.caused
   get_byob-balanced Reading j s free k =
       let n = locks-append Reading i s.locks (ByobReader (Some j) (next_id s.promises)) in
-      enters Reading i s k (calls.get_byob j s).done.slots _ (is_same i j) (omega (arith, n)) refl (omega arith) refl
+      enters Reading i s k (making_calls.get_byob j s).done.slots _ (is_same i j) (omega (arith, n)) refl (omega arith) refl
       (λ e. let f = free_reader (slice_get s.streams j.0) free in rw (same_id i j e) f)
   get_byob-balanced Writing j s free k =
       let n = locks-append Writing i s.locks (ByobReader (Some j) (next_id s.promises)) in
-      enters Writing i s k (calls.get_byob j s).done.slots _ false (omega (arith, n)) refl refl refl (λ e. absurd (cc))
+      enters Writing i s k (making_calls.get_byob j s).done.slots _ false (omega (arith, n)) refl refl refl (λ e. absurd (cc))
 
-  get_writer-balanced : (d : Side) (j : StreamId) (s : Slots) → has_writable j s ≡ true → is_some (writable_at j s).writer ≡ false → Balanced d i s [] → Balanced d i (calls.get_writer j s).done.slots (calls.get_writer j s).done.caused
+  get_writer-balanced : (d : Side) (j : StreamId) (s : Slots) → has_writable j s ≡ true → is_some (writable_at j s).writer ≡ false → Balanced d i s [] → Balanced d i (making_calls.get_writer j s).done.slots (making_calls.get_writer j s).done.caused
   get_writer-balanced Writing j s there free k =
       let n = locks-append Writing i s.locks (WriterLock j) in
-      enters Writing i s k (calls.get_writer j s).done.slots _ (is_same i j) (omega (arith, n)) refl (omega arith) refl
+      enters Writing i s k (making_calls.get_writer j s).done.slots _ (is_same i j) (omega (arith, n)) refl (omega arith) refl
       (λ e. let f = free_writer (slice_get s.streams j.0) there free in rw (same_id i j e) f)
   get_writer-balanced Reading j s there free k =
       let n = locks-append Reading i s.locks (WriterLock j) in
-      enters Reading i s k (calls.get_writer j s).done.slots _ false (omega (arith, n)) refl refl refl (λ e. absurd (cc))
+      enters Reading i s k (making_calls.get_writer j s).done.slots _ false (omega (arith, n)) refl refl refl (λ e. absurd (cc))
 
-  renewed-goes : (d : Side) (t : Table) (kept : Bool) (es : List Effect) → all (goes d i) (calls.reject_renewed t kept ++ es) ≡ all (goes d i) es
+  renewed-goes : (d : Side) (t : Table) (kept : Bool) (es : List Effect) → all (goes d i) (lock_calls.reject_renewed t kept ++ es) ≡ all (goes d i) es
   renewed-goes d t kept es =
-      let n = goes_none-all d i (calls.reject_renewed t kept) (renewed-calm t kept) in
-      let m = all-append (goes d i) (calls.reject_renewed t kept) es in omega (arith, n, m)
+      let n = goes_none-all d i (lock_calls.reject_renewed t kept) (renewed-calm t kept) in
+      let m = all-append (goes d i) (lock_calls.reject_renewed t kept) es in omega (arith, n, m)
 
   reader_leaves : (d : Side) (j : StreamId) (closed : PromiseId) → all (goes d i) (OnReadable j ReleaseReader ∷ []) ≡ one_if (has d i (Reader (Some j) closed))
   reader_leaves Reading j closed = omega arith
@@ -238,31 +242,31 @@ module _ (i : StreamId) where
   writer_leaves Writing j = omega arith
 
   release_reader-balanced : (d : Side) (l : LockId) (closed : PromiseId) (j : StreamId) (s : Slots) (old : Lock) (released : PromiseId → Lock) → all (goes d i) (OnReadable j ReleaseReader ∷ []) ≡ one_if (has d i old)
-      → ((p : PromiseId) → has d i (released p) ≡ false) → lock_at l s ≡ Some old → Balanced d i s [] → Balanced d i (calls.release_reader released l closed j s).done.slots (calls.release_reader released l closed j s).done.caused
+      → ((p : PromiseId) → has d i (released p) ≡ false) → lock_at l s ≡ Some old → Balanced d i s [] → Balanced d i (lock_calls.release_reader released l closed j s).done.slots (lock_calls.release_reader released l closed j s).done.caused
   release_reader-balanced d l closed j s old released own gone_of e k =
       let kept : Bool = readable.is_readable (source_at j s).state in
-      let new : Lock = released (calls.renewed closed s.promises kept) in
+      let new : Lock = released (lock_calls.renewed closed s.promises kept) in
       let set = locks-set d i l.0 s.locks old new e in
-      let none = ap one_if (gone_of (calls.renewed closed s.promises kept)) in
+      let none = ap one_if (gone_of (lock_calls.renewed closed s.promises kept)) in
       let gone = renewed-goes d s.promises kept (OnReadable j ReleaseReader ∷ []) in
-      leaves d i s k (calls.release_reader released l closed j s).done.slots (calls.release_reader released l closed j s).done.caused (omega (arith, set, none, gone, own)) refl refl refl
-      (each-append IsNoTake (calls.reject_renewed s.promises kept) (OnReadable j ReleaseReader ∷ []) (no_takes _ (renewed-calm s.promises kept)) (tt, tt))
+      leaves d i s k (lock_calls.release_reader released l closed j s).done.slots (lock_calls.release_reader released l closed j s).done.caused (omega (arith, set, none, gone, own)) refl refl refl
+      (each-append IsNoTake (lock_calls.reject_renewed s.promises kept) (OnReadable j ReleaseReader ∷ []) (no_takes _ (renewed-calm s.promises kept)) (tt, tt))
 
   release_writer-balanced : (d : Side) (l : LockId) (j : StreamId) (w : Writer) (s : Slots) → lock_at l s ≡ Some (WriterLock j) → Balanced d i s []
-      → Balanced d i (calls.release_writer l j w s).done.slots (calls.release_writer l j w s).done.caused
+      → Balanced d i (lock_calls.release_writer l j w s).done.slots (lock_calls.release_writer l j w s).done.caused
   release_writer-balanced d l j w s e k =
       let ready : Bool = is_pending_at w.ready s.promises in
-      let t : Table = calls.with_renewed s.promises ready in
+      let t : Table = lock_calls.with_renewed s.promises ready in
       let closed : Bool = is_pending_at w.closed t in
-      let released : Writer = record { ready = calls.renewed w.ready s.promises ready; closed = calls.renewed w.closed t closed } in
+      let released : Writer = record { ready = lock_calls.renewed w.ready s.promises ready; closed = lock_calls.renewed w.closed t closed } in
       let set = locks-set d i l.0 s.locks (WriterLock j) (ReleasedWriter released) e in
       let none = ap one_if (no_released d i released) in
       let gone = renewed-goes d t closed (OnWritable j ReleaseWriter ∷ []) in
-      let before = renewed-goes d s.promises ready (calls.reject_renewed t closed ++ OnWritable j ReleaseWriter ∷ []) in
+      let before = renewed-goes d s.promises ready (lock_calls.reject_renewed t closed ++ OnWritable j ReleaseWriter ∷ []) in
       let own = writer_leaves d j in
-      leaves d i s k (calls.release_writer l j w s).done.slots (calls.release_writer l j w s).done.caused (omega (arith, set, none, gone, before, own)) refl refl refl
-      (each-append IsNoTake (calls.reject_renewed s.promises ready) _ (no_takes _ (renewed-calm s.promises ready))
-      (each-append IsNoTake (calls.reject_renewed t closed) (OnWritable j ReleaseWriter ∷ []) (no_takes _ (renewed-calm t closed)) (tt, tt)))
+      leaves d i s k (lock_calls.release_writer l j w s).done.slots (lock_calls.release_writer l j w s).done.caused (omega (arith, set, none, gone, before, own)) refl refl refl
+      (each-append IsNoTake (lock_calls.reject_renewed s.promises ready) _ (no_takes _ (renewed-calm s.promises ready))
+      (each-append IsNoTake (lock_calls.reject_renewed t closed) (OnWritable j ReleaseWriter ∷ []) (no_takes _ (renewed-calm t closed)) (tt, tt)))
 
   -- a pipe takes its ends
 
@@ -282,18 +286,18 @@ module _ (i : StreamId) where
   end_free Writing source dest s x e f free there writer same = let g = free_writer (slice_get s.streams dest.0) there writer in rw (same_id i x.dest same, f) g
 
   pipe-balanced : (d : Side) (source dest : StreamId) (prevent : Prevent) (signal : Option SignalId) (s : Slots) → is_some (source_at source s).reader ≡ false → has_writable dest s ≡ true → is_some (writable_at dest s).writer ≡ false
-      → Balanced d i s [] → Balanced d i (calls.pipe_to source dest prevent signal s).done.slots (calls.pipe_to source dest prevent signal s).done.caused
+      → Balanced d i s [] → Balanced d i (pipe_calls.pipe_to source dest prevent signal s).done.slots (pipe_calls.pipe_to source dest prevent signal s).done.caused
   pipe-balanced d source dest prevent signal s free there writer k =
       let t : Table = s.promises in
       let closed : PromiseId = next_id t in
       let w : Writer = record { ready = next_id (fresh t); closed = next_id (fresh (fresh t)) } in
       let x : pipe.Slots = pipe.set_up source dest prevent signal (next_id (fresh (fresh (fresh t)))) in
       let me : PipeId = record { 0 = length s.pipes } in
-      let last : List Effect = calls.pipe_begins me closed w.closed signal (calls.reason_of signal s) in
-      let calm = begins-calm me closed w.closed signal (calls.reason_of signal s) in
+      let last : List Effect = pipe_calls.pipe_begins me closed w.closed signal (pipe_calls.reason_of signal s) in
+      let calm = begins-calm me closed w.closed signal (pipe_calls.reason_of signal s) in
       let n = inner d i s k in
       let m = pipes-append d i s.pipes x in
-      enters d i s k (calls.pipe_to source dest prevent signal s).done.slots (calls.pipe_to source dest prevent signal s).done.caused (is_same i (end_of d x)) (omega (arith, n, m)) refl
+      enters d i s k (pipe_calls.pipe_to source dest prevent signal s).done.slots (pipe_calls.pipe_to source dest prevent signal s).done.caused (is_same i (end_of d x)) (omega (arith, n, m)) refl
       (first_takes d source dest closed w last x refl refl (takes_none-all d i last (no_takes last calm)))
       (first_goes d source dest closed w last (goes_none-all d i last calm))
       (end_free d source dest s x refl refl free there writer)
@@ -301,20 +305,20 @@ module _ (i : StreamId) where
   -- the two halves of a transform stream
 
   transform-balanced : (d : Side) (kind : Kind) (m n : ℕ) (start : StartBy) (j l : StreamId) (s : Slots) → Balanced d i s []
-      → Balanced d i (calls.make_transform kind m n start j l s).done.slots (calls.make_transform kind m n start j l s).done.caused
+      → Balanced d i (making_calls.make_transform kind m n start j l s).done.slots (making_calls.make_transform kind m n start j l s).done.caused
   transform-balanced d kind m n start j l s k =
       let me : TransformId = record { 0 = length s.transforms } in
       let w : Stream = WritableStream (writable.set_up (HalfOf me) m Count) in
       let r : Stream = ReadableStream (readable.set_up (HalfOf me) n Count) in
       let one : Balanced d i (add_stream w s) [] = made d i s k w [] (new_writable d (HalfOf me) m Count) tt in
-      let two = made d i (add_stream w s) one r (calls.make_transform kind m n start j l s).done.caused (new_readable d (HalfOf me) n Count)
+      let two = made d i (add_stream w s) one r (making_calls.make_transform kind m n start j l s).done.caused (new_readable d (HalfOf me) n Count)
       (tt, (tt, (tt, (tt, (start-calm (next_id (fresh s.promises)) l start, tt))))) in
       record { even = two.even; few = two.few }
 
   -- a tee takes its source, a stream that was there, and its branches are new
 
   tee-balanced : (d : Side) (source j l : StreamId) (s : Slots) → has_readable source s ≡ true → is_some (source_at source s).reader ≡ false → Balanced d i s []
-      → Balanced d i (calls.make_tee source j l s).done.slots (calls.make_tee source j l s).done.caused
+      → Balanced d i (making_calls.make_tee source j l s).done.slots (making_calls.make_tee source j l s).done.caused
   tee-balanced d source j l s there free k =
       let me : TeeId = record { 0 = length s.tees } in
       let x : Stream = ReadableStream (readable.set_up (BranchOf me First) 1 Count) in
@@ -322,8 +326,8 @@ module _ (i : StreamId) where
       let new : tee.Slots = tee.set_up source j l (next_id (fresh s.promises)) in
       let first : Slots = add_stream x s in
       let both : Slots = add_stream y first in
-      let z : Slots = (calls.make_tee source j l s).done.slots in
-      let es : List Effect = (calls.make_tee source j l s).done.caused in
+      let z : Slots = (making_calls.make_tee source j l s).done.slots in
+      let es : List Effect = (making_calls.make_tee source j l s).done.caused in
       let one : Balanced d i first [] = made d i s k x [] (new_readable d (BranchOf me First) 1 Count) tt in
       let two : Balanced d i both [] = made d i first one y [] (new_readable d (BranchOf me Second) 1 Count) tt in
       let here : slice_get first.streams source.0 ≡ slice_get s.streams source.0 = before_one source s.streams x there in
@@ -338,29 +342,29 @@ module _ (i : StreamId) where
           let both : Slots = add_stream (ReadableStream (readable.set_up (BranchOf me Second) 1 Count)) (add_stream (ReadableStream (readable.set_up (BranchOf me First) 1 Count)) s) in
           let new : tee.Slots = tee.set_up source j l (next_id (fresh s.promises)) in
           Balanced d i both [] → in_locks d i (s.locks ++ Inner ∷ []) ≡ in_locks d i s.locks → in_tees d i (s.tees ++ new ∷ []) ≡ in_tees d i s.tees + one_if (tees_off d i new)
-          → is_some (source_at source both).reader ≡ false → Balanced d i (calls.make_tee source j l s).done.slots (calls.make_tee source j l s).done.caused
+          → is_some (source_at source both).reader ≡ false → Balanced d i (making_calls.make_tee source j l s).done.slots (making_calls.make_tee source j l s).done.caused
       by Reading two n m open_ =
           let me : TeeId = record { 0 = length s.tees } in
           let both : Slots = add_stream (ReadableStream (readable.set_up (BranchOf me Second) 1 Count)) (add_stream (ReadableStream (readable.set_up (BranchOf me First) 1 Count)) s) in
-          enters Reading i both two (calls.make_tee source j l s).done.slots (calls.make_tee source j l s).done.caused (is_same i source) (omega (arith, n, m)) refl (omega arith) refl
+          enters Reading i both two (making_calls.make_tee source j l s).done.slots (making_calls.make_tee source j l s).done.caused (is_same i source) (omega (arith, n, m)) refl (omega arith) refl
           (λ e. let f = free_reader (slice_get both.streams source.0) open_ in rw (same_id i source e) f)
       by Writing two n m open_ =
           let me : TeeId = record { 0 = length s.tees } in
           let both : Slots = add_stream (ReadableStream (readable.set_up (BranchOf me Second) 1 Count)) (add_stream (ReadableStream (readable.set_up (BranchOf me First) 1 Count)) s) in
-          enters Writing i both two (calls.make_tee source j l s).done.slots (calls.make_tee source j l s).done.caused false (omega (arith, n, m)) refl refl refl (λ e. absurd (cc))
+          enters Writing i both two (making_calls.make_tee source j l s).done.slots (making_calls.make_tee source j l s).done.caused false (omega (arith, n, m)) refl refl refl (λ e. absurd (cc))
 
   -- a port, and its stream, which is new
 
-  with_start : (d : Side) (side : PortSide) (j : StreamId) (z : Slots) (es : List Effect) → Balanced d i z es → Balanced d i z (calls.start_end j side ∷ es)
+  with_start : (d : Side) (side : PortSide) (j : StreamId) (z : Slots) (es : List Effect) → Balanced d i z es → Balanced d i z (pipe_calls.start_end j side ∷ es)
   with_start d side j z es k =
       let calm = end-calm side j in
-      let t = takes_none d i (calls.start_end j side) (calm_takes (calls.start_end j side) calm) in
-      let g = goes_none d i (calls.start_end j side) calm in
+      let t = takes_none d i (pipe_calls.start_end j side) (calm_takes (pipe_calls.start_end j side) calm) in
+      let g = goes_none d i (pipe_calls.start_end j side) calm in
       let even = k.even in
       let few = k.few in
       record { even = omega (arith, t, g, even); few = omega (arith, g, few) }
 
-  port-balanced : (d : Side) (side : PortSide) (s : Slots) → Balanced d i s [] → Balanced d i (calls.add_port (record { 0 = length s.streams }) s side) []
+  port-balanced : (d : Side) (side : PortSide) (s : Slots) → Balanced d i s [] → Balanced d i (pipe_calls.add_port (record { 0 = length s.streams }) s side) []
   port-balanced d ReadableSide s k =
       let me : PortId = record { 0 = length s.ports } in
       let one = made d i s k (ReadableStream (readable.set_up (EndOf me) 0 Count)) [] (new_readable d (EndOf me) 0 Count) tt in
@@ -370,32 +374,32 @@ module _ (i : StreamId) where
       let one = made d i s k (WritableStream (writable.set_up (EndOf me) 1 Count)) [] (new_writable d (EndOf me) 1 Count) tt in
       record { even = one.even; few = one.few }
 
-  open-balanced : (d : Side) (side : PortSide) (s : Slots) → Balanced d i s [] → let b : Begun = calls.open_end side (record { 0 = length s.streams }) s in Balanced d i b.done.slots b.done.caused
-  open-balanced d side s k = with_start d side (record { 0 = length s.streams }) (calls.add_port (record { 0 = length s.streams }) s side) [] (port-balanced d side s k)
+  open-balanced : (d : Side) (side : PortSide) (s : Slots) → Balanced d i s [] → let b : Begun = pipe_calls.open_end side (record { 0 = length s.streams }) s in Balanced d i b.done.slots b.done.caused
+  open-balanced d side s k = with_start d side (record { 0 = length s.streams }) (pipe_calls.add_port (record { 0 = length s.streams }) s side) [] (port-balanced d side s k)
 
   -- and a pipe takes it, with a stream that was there
 
   send_readable-balanced : (d : Side) (source : StreamId) (s : Slots) → has_source source s ≡ true → is_some (source_at source s).reader ≡ false → Balanced d i s []
-      → let b : Begun = calls.send_readable source (record { 0 = length s.streams }) s in Balanced d i b.done.slots b.done.caused
+      → let b : Begun = pipe_calls.send_readable source (record { 0 = length s.streams }) s in Balanced d i b.done.slots b.done.caused
   send_readable-balanced d source s there free k =
       let j : StreamId = record { 0 = length s.streams } in
       let me : PortId = record { 0 = length s.ports } in
       let w : Stream = WritableStream (writable.set_up (EndOf me) 1 Count) in
-      let z : Slots = calls.add_port j s WritableSide in
+      let z : Slots = pipe_calls.add_port j s WritableSide in
       let here : slice_get z.streams source.0 ≡ slice_get s.streams source.0 = source-stays (slice_get s.streams source.0) s.streams w source.0 refl there in
       let new : slice_get z.streams j.0 ≡ Some w = place_last s.streams w in
-      with_start d WritableSide j _ _ (pipe-balanced d source j calls.no_prevent None z (rw here free) (rw new refl) (rw new refl) (port-balanced d WritableSide s k))
+      with_start d WritableSide j _ _ (pipe-balanced d source j pipe_calls.no_prevent None z (rw here free) (rw new refl) (rw new refl) (port-balanced d WritableSide s k))
 
   send_writable-balanced : (d : Side) (dest : StreamId) (s : Slots) → has_writable dest s ≡ true → is_some (writable_at dest s).writer ≡ false → Balanced d i s []
-      → let b : Begun = calls.send_writable dest (record { 0 = length s.streams }) s in Balanced d i b.done.slots b.done.caused
+      → let b : Begun = pipe_calls.send_writable dest (record { 0 = length s.streams }) s in Balanced d i b.done.slots b.done.caused
   send_writable-balanced d dest s there free k =
       let j : StreamId = record { 0 = length s.streams } in
       let me : PortId = record { 0 = length s.ports } in
       let r : Stream = ReadableStream (readable.set_up (EndOf me) 0 Count) in
-      let z : Slots = calls.add_port j s ReadableSide in
+      let z : Slots = pipe_calls.add_port j s ReadableSide in
       let here : slice_get z.streams dest.0 ≡ slice_get s.streams dest.0 = writable-stays (slice_get s.streams dest.0) s.streams r dest.0 refl there in
       let new : slice_get z.streams j.0 ≡ Some r = place_last s.streams r in
-      with_start d ReadableSide j _ _ (pipe-balanced d j dest calls.no_prevent None z (rw new refl) (rw here there) (rw here free) (port-balanced d ReadableSide s k))
+      with_start d ReadableSide j _ _ (pipe-balanced d j dest pipe_calls.no_prevent None z (rw new refl) (rw here there) (rw here free) (port-balanced d ReadableSide s k))
 
   -- each call
 

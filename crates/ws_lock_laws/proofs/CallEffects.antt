@@ -14,8 +14,11 @@ use Rattle.ws_steps.specs.declared.effects.Effect.TheVariants.{Readable as OnRea
 use Rattle.ws_steps.specs.declared.{locks.Lock.TheVariants.{Reader, ByobReader}, promises.Job.{Job}}
 use Rattle.ws_steps.specs.declared.readable.ReadableOperation.TheVariants.{ReleaseReader}
 use Rattle.ws_steps.specs.declared.writable.{WritableOperation.TheVariants.{ReleaseWriter}}
-use Rattle.ws_steps.specs.Calls as calls
-use Rattle.ws_steps.specs.Calls.{Begun, begin}
+use Rattle.ws_steps.specs.MakingCalls as making_calls
+use Rattle.ws_steps.specs.LockCalls as lock_calls
+use Rattle.ws_steps.specs.PipeCalls as pipe_calls
+use Rattle.ws_steps.specs.Begun.{Begun}
+use Rattle.ws_steps.specs.Calls.{begin}
 use Rattle.ws_steps.specs.Jobs.{job_effects}
 use Rattle.ws_steps.specs.Promises.{Table, next_id, fresh, is_pending_at}
 use Rattle.ws_steps.specs.Readable as readable
@@ -23,7 +26,7 @@ use Rattle.ws_steps.specs.Slots.{Slots, source_at}
 use Rattle.ws_steps.specs.Turns.{row}
 use Rattle.ws_laws.proofs.EachCall.{each_call}
 use Rattle.ws_laws.proofs.Lists.{Each, each-append, each-map}
-use Rattle.ws_laws.proofs.Rows.{row-causes}
+use Rattle.ws_laws.proofs.Causes.{row-causes}
 use Rattle.ws_laws.proofs.StaysBytes.{row-byte}
 use Rattle.ws_lock_laws.proofs.Agenda.{IsNoTake, IsCalm, calm_takes, TakesFirst, takes_first}
 use Rattle.ws_lock_laws.proofs.Rows.{IsToldBytes, take-causes}
@@ -35,15 +38,15 @@ job-calm job = grind arith
 
 -- a call that takes locks does that first
 
-pub renewed-calm : (t : Table) (kept : Bool) → Each IsCalm (calls.reject_renewed t kept)
+pub renewed-calm : (t : Table) (kept : Bool) → Each IsCalm (lock_calls.reject_renewed t kept)
 renewed-calm t kept = grind arith
 
-pub begins-calm : (me : PipeId) (a b : PromiseId) (signal : Option SignalId) (reason : Option Plain) → Each IsCalm (calls.pipe_begins me a b signal reason)
+pub begins-calm : (me : PipeId) (a b : PromiseId) (signal : Option SignalId) (reason : Option Plain) → Each IsCalm (pipe_calls.pipe_begins me a b signal reason)
 begins-calm me a b signal (Some r) = (tt, tt)
 begins-calm me a b None None = grind arith
 begins-calm me a b (Some g) None = grind arith
 
-pub start-calm : (q : PromiseId) (j : StreamId) (start : StartBy) → IsCalm (calls.start_transform q j start)
+pub start-calm : (q : PromiseId) (j : StreamId) (start : StartBy) → IsCalm (making_calls.start_transform q j start)
 start-calm q j StartNow = tt
 start-calm q j Later = tt
 
@@ -54,15 +57,15 @@ starts-first : (j : StreamId) (step : Step) (start : StartBy) → TakesFirst (St
 starts-first j step StartNow = tt
 starts-first j step Later = tt
 
-transform-first : (q : PromiseId) (j : StreamId) (start : StartBy) → TakesFirst (calls.start_transform q j start ∷ [])
+transform-first : (q : PromiseId) (j : StreamId) (start : StartBy) → TakesFirst (making_calls.start_transform q j start ∷ [])
 transform-first q j StartNow = tt
 transform-first q j Later = tt
 
-end-first : (side : PortSide) (j : StreamId) → TakesFirst (calls.start_end j side ∷ [])
+end-first : (side : PortSide) (j : StreamId) → TakesFirst (pipe_calls.start_end j side ∷ [])
 end-first ReadableSide j = tt
 end-first WritableSide j = tt
 
-pub end-calm : (side : PortSide) (j : StreamId) → IsCalm (calls.start_end j side)
+pub end-calm : (side : PortSide) (j : StreamId) → IsCalm (pipe_calls.start_end j side)
 end-calm ReadableSide j = tt
 end-calm WritableSide j = tt
 
@@ -75,7 +78,7 @@ call-first c s = each_call (λ (b : Begun). TakesFirst b.done.caused) c s (recor
   get_byob = λ i is e. tt;
   release_byob = λ l closed i e.
       let kept : Bool = readable.is_readable (source_at i s).state in
-      takes_first _ (each-append IsNoTake (calls.reject_renewed s.promises kept) (OnReadable i ReleaseReader ∷ []) (no_takes _ (renewed-calm s.promises kept)) (tt, tt));
+      takes_first _ (each-append IsNoTake (lock_calls.reject_renewed s.promises kept) (OnReadable i ReleaseReader ∷ []) (no_takes _ (renewed-calm s.promises kept)) (tt, tt));
   read_into = λ l i closed room element least e f. tt;
   enqueue_bytes = λ i b e is some can. tt;
   finish_bytes = λ i e is can. tt;
@@ -86,13 +89,13 @@ call-first c s = each_call (λ (b : Begun). TakesFirst b.done.caused) c s (recor
   get_writer = λ i e. tt;
   release_reader = λ l closed i e.
       let kept : Bool = readable.is_readable (source_at i s).state in
-      takes_first _ (each-append IsNoTake (calls.reject_renewed s.promises kept) (OnReadable i ReleaseReader ∷ []) (no_takes _ (renewed-calm s.promises kept)) (tt, tt));
+      takes_first _ (each-append IsNoTake (lock_calls.reject_renewed s.promises kept) (OnReadable i ReleaseReader ∷ []) (no_takes _ (renewed-calm s.promises kept)) (tt, tt));
   release_writer = λ l i w e f.
       let ready : Bool = is_pending_at w.ready s.promises in
-      let t : Table = calls.with_renewed s.promises ready in
+      let t : Table = lock_calls.with_renewed s.promises ready in
       let closed : Bool = is_pending_at w.closed t in
-      takes_first _ (each-append IsNoTake (calls.reject_renewed s.promises ready) _ (no_takes _ (renewed-calm s.promises ready))
-      (each-append IsNoTake (calls.reject_renewed t closed) (OnWritable i ReleaseWriter ∷ []) (no_takes _ (renewed-calm t closed)) (tt, tt)));
+      takes_first _ (each-append IsNoTake (lock_calls.reject_renewed s.promises ready) _ (no_takes _ (renewed-calm s.promises ready))
+      (each-append IsNoTake (lock_calls.reject_renewed t closed) (OnWritable i ReleaseWriter ∷ []) (no_takes _ (renewed-calm t closed)) (tt, tt)));
   cancel = λ reason i. tt;
   read = λ l i closed e f. tt;
   write = λ l v i e. tt;
@@ -109,7 +112,7 @@ call-first c s = each_call (λ (b : Begun). TakesFirst b.done.caused) c s (recor
   fail_readable = λ i reason. tt;
   fail_writable = λ i reason. tt;
   pipe = λ source dest prevent signal e f l m.
-      no_takes _ (begins-calm (record { 0 = length s.pipes }) (next_id s.promises) (next_id (fresh (fresh s.promises))) signal (calls.reason_of signal s));
+      no_takes _ (begins-calm (record { 0 = length s.pipes }) (next_id s.promises) (next_id (fresh (fresh s.promises))) signal (pipe_calls.reason_of signal s));
   make_signal = tt;
   open_end = λ side. end-first side _;
   send_readable = λ source there free. (tt, (tt, (tt, tt)));
@@ -143,7 +146,7 @@ call-told c s = each_call (λ (b : Begun). Each (IsToldBytes b.done.slots) b.don
   make_readable = λ mark size start. (tt, tt);
   make_writable = λ mark size start. (tt, tt);
   get_byob = λ i is e. (is, tt);
-  release_byob = λ l closed i e. told_all (calls.release_reader (ByobReader None) l closed i s).done.slots _ (each-append IsNoTake (calls.reject_renewed s.promises (readable.is_readable (source_at i s).state)) (OnReadable i ReleaseReader ∷ []) (no_takes _ (renewed-calm s.promises (readable.is_readable (source_at i s).state))) (tt, tt));
+  release_byob = λ l closed i e. told_all (lock_calls.release_reader (ByobReader None) l closed i s).done.slots _ (each-append IsNoTake (lock_calls.reject_renewed s.promises (readable.is_readable (source_at i s).state)) (OnReadable i ReleaseReader ∷ []) (no_takes _ (renewed-calm s.promises (readable.is_readable (source_at i s).state))) (tt, tt));
   read_into = λ l i closed room element least e f. (tt, tt);
   enqueue_bytes = λ i b e is some can. (tt, tt);
   finish_bytes = λ i e is can. (tt, tt);
@@ -152,13 +155,13 @@ call-told c s = each_call (λ (b : Begun). Each (IsToldBytes b.done.slots) b.don
   make_bytes = λ mark auto start. (tt, tt);
   get_reader = λ i e. (tt, tt);
   get_writer = λ i e. (tt, tt);
-  release_reader = λ l closed i e. told_all (calls.release_reader (Reader None) l closed i s).done.slots _ (each-append IsNoTake (calls.reject_renewed s.promises (readable.is_readable (source_at i s).state)) (OnReadable i ReleaseReader ∷ []) (no_takes _ (renewed-calm s.promises (readable.is_readable (source_at i s).state))) (tt, tt));
+  release_reader = λ l closed i e. told_all (lock_calls.release_reader (Reader None) l closed i s).done.slots _ (each-append IsNoTake (lock_calls.reject_renewed s.promises (readable.is_readable (source_at i s).state)) (OnReadable i ReleaseReader ∷ []) (no_takes _ (renewed-calm s.promises (readable.is_readable (source_at i s).state))) (tt, tt));
   release_writer = λ l i w e f.
       let ready : Bool = is_pending_at w.ready s.promises in
-      let t : Table = calls.with_renewed s.promises ready in
+      let t : Table = lock_calls.with_renewed s.promises ready in
       let closed : Bool = is_pending_at w.closed t in
-      told_all (calls.release_writer l i w s).done.slots _ (each-append IsNoTake (calls.reject_renewed s.promises ready) _ (no_takes _ (renewed-calm s.promises ready))
-      (each-append IsNoTake (calls.reject_renewed t closed) (OnWritable i ReleaseWriter ∷ []) (no_takes _ (renewed-calm t closed)) (tt, tt)));
+      told_all (lock_calls.release_writer l i w s).done.slots _ (each-append IsNoTake (lock_calls.reject_renewed s.promises ready) _ (no_takes _ (renewed-calm s.promises ready))
+      (each-append IsNoTake (lock_calls.reject_renewed t closed) (OnWritable i ReleaseWriter ∷ []) (no_takes _ (renewed-calm t closed)) (tt, tt)));
   cancel = λ reason i. (tt, tt);
   read = λ l i closed e f. (tt, tt);
   write = λ l v i e. (tt, tt);
@@ -166,8 +169,8 @@ call-told c s = each_call (λ (b : Begun). Each (IsToldBytes b.done.slots) b.don
   abort = λ reason i e. (tt, tt);
   make_tee = λ i e is free untied. (tt, (tt, (tt, (tt, tt))));
   make_transform = λ kind m n start.
-      let first : Effect = calls.start_transform (next_id (fresh s.promises)) (record { 0 = length s.streams + 1 }) start in
-      (tt, (tt, (tt, (tt, (no_take-told (calls.make_transform kind m n start (record { 0 = length s.streams }) (record { 0 = length s.streams + 1 }) s).done.slots first (calm_takes first (start-calm (next_id (fresh s.promises)) (record { 0 = length s.streams + 1 }) start)), tt)))));
+      let first : Effect = making_calls.start_transform (next_id (fresh s.promises)) (record { 0 = length s.streams + 1 }) start in
+      (tt, (tt, (tt, (tt, (no_take-told (making_calls.make_transform kind m n start (record { 0 = length s.streams }) (record { 0 = length s.streams + 1 }) s).done.slots first (calm_takes first (start-calm (next_id (fresh s.promises)) (record { 0 = length s.streams + 1 }) start)), tt)))));
   enqueue = λ i v e o can. (tt, tt);
   enqueue_half = λ i t v e o can. (tt, tt);
   fail_half = λ t reason. (tt, tt);
@@ -176,9 +179,9 @@ call-told c s = each_call (λ (b : Begun). Each (IsToldBytes b.done.slots) b.don
   fail_readable = λ i reason. (tt, tt);
   fail_writable = λ i reason. (tt, tt);
   pipe = λ source dest prevent signal e f l m.
-      (tt, (tt, (tt, told_all (calls.pipe_to source dest prevent signal s).done.slots _ (no_takes _ (begins-calm (record { 0 = length s.pipes }) (next_id s.promises) (next_id (fresh (fresh s.promises))) signal (calls.reason_of signal s))))));
+      (tt, (tt, (tt, told_all (pipe_calls.pipe_to source dest prevent signal s).done.slots _ (no_takes _ (begins-calm (record { 0 = length s.pipes }) (next_id s.promises) (next_id (fresh (fresh s.promises))) signal (pipe_calls.reason_of signal s))))));
   make_signal = tt;
-  open_end = λ side. told_all (calls.open_end side (record { 0 = length s.streams }) s).done.slots (calls.start_end (record { 0 = length s.streams }) side ∷ []) (calm_takes (calls.start_end (record { 0 = length s.streams }) side) (end-calm side (record { 0 = length s.streams })), tt);
+  open_end = λ side. told_all (pipe_calls.open_end side (record { 0 = length s.streams }) s).done.slots (pipe_calls.start_end (record { 0 = length s.streams }) side ∷ []) (calm_takes (pipe_calls.start_end (record { 0 = length s.streams }) side) (end-calm side (record { 0 = length s.streams })), tt);
   send_readable = λ source there free. (tt, (tt, (tt, (tt, (tt, (tt, (tt, tt)))))));
   send_writable = λ dest there free. (tt, (tt, (tt, (tt, (tt, (tt, (tt, tt)))))));
   deliver = λ c m asked has. (tt, tt);

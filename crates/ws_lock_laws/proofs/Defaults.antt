@@ -2,12 +2,13 @@
 use Rattle.ws_steps.specs.declared.port.Side.{Side as PortSide}
 use Rattle.std.proofs.Common.{length}
 use Rattle.ws_steps.specs.declared.port.Side.TheVariants.{Readable as ReadableSide, Writable as WritableSide}
-use Rattle.ws_steps.specs.Calls as calls
+use Rattle.ws_steps.specs.PipeCalls as pipe_calls
 use Rattle.std.proofs.Common.{◌≡◌, ℕ, zero, suc, ◌⊎◌, inl, inr, ⊎_elim, true, List, [], ◌∷◌, ◌++◌, map, Option, Some, None, slice_get, refl, ap, subst}
 use Rattle.ws_steps.specs.declared.calls.Call.{Call}
 use Rattle.ws_steps.specs.declared.effects.Effect.{Effect}
 use Rattle.ws_steps.specs.Tee as tee
-use Rattle.ws_steps.specs.Calls.{Begun, begin}
+use Rattle.ws_steps.specs.Begun.{Begun}
+use Rattle.ws_steps.specs.Calls.{begin}
 use Rattle.ws_steps.specs.Run.{Entry, run}
 use Rattle.ws_steps.specs.Slots.{Slots, Stream, ReadableStream, ByteStream, WritableStream, is_readable_stream, empty}
 use Rattle.ws_steps.specs.Turns.{row}
@@ -61,7 +62,7 @@ tee-more : (xs : List Stream) (ts : List tee.Slots) (y : tee.Slots) → is_reada
 tee-more xs ts y there h t x is =
     ⊎_elim (h t x) (λ same. subst (λ (z : tee.Slots). is_readable_stream (slice_get xs z.source.0) ≡ true) same there) (last-or ts y x t is)
 
-port-defaults : (s : Slots) (side : PortSide) → Defaulted s [] → Defaulted (calls.open_end side (record { 0 = length s.streams }) s).done.slots []
+port-defaults : (s : Slots) (side : PortSide) → Defaulted s [] → Defaulted (pipe_calls.open_end side (record { 0 = length s.streams }) s).done.slots []
 port-defaults s ReadableSide h = one-more s.streams s.tees _ h
 port-defaults s WritableSide h = one-more s.streams s.tees _ h
 

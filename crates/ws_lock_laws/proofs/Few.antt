@@ -3,14 +3,15 @@ use Rattle.ws_steps.specs.declared.port.Side.{Side as PortSide}
 use Rattle.ws_steps.specs.declared.port.Side.TheVariants.{Readable as ReadableSide, Writable as WritableSide}
 use Rattle.ws_steps.specs.WritableLooks as writable_looks
 use Rattle.ws_steps.specs.Slots.{writable_at}
-use Rattle.ws_steps.specs.Calls as calls
+use Rattle.ws_steps.specs.PipeCalls as pipe_calls
 use Rattle.ws_steps.specs.declared.calls.Call.TheVariants.{Send, Open}
 use Rattle.std.proofs.Common.{◌≡◌, ℕ, zero, suc, ◌+◌, ◌≤◌, Bool, true, false, nat_lt, nat_eq, List, [], ◌∷◌, ◌++◌, length, map, slice_get, refl, sym, ap, ◌∙◌, arith}
 use Rattle.ws_value.specs.declared.ids.StreamId.{StreamId}
 use Rattle.ws_steps.specs.declared.calls.Call.{Call}
 use Rattle.ws_steps.specs.declared.calls.Call.TheVariants.{MakeReadable, MakeBytes, MakeWritable, MakeTransform, Tee}
 use Rattle.ws_steps.specs.declared.effects.Effect.{Effect}
-use Rattle.ws_steps.specs.Calls.{Begun, begin}
+use Rattle.ws_steps.specs.Begun.{Begun}
+use Rattle.ws_steps.specs.Calls.{begin}
 use Rattle.ws_steps.specs.Histories.{is_same}
 use Rattle.ws_steps.specs.ReadableLooks.{is_locked}
 use Rattle.ws_steps.specs.Run.{Entry, run}
@@ -82,7 +83,7 @@ module _ (s : Slots) (few : length s.streams ≤ most_streams) where
       (λ f. either IsFew (nat_lt (length s.streams) most_streams) _ _ (λ k. room-one most_streams s.streams _ k) (λ k. few)))
       (λ e. few))
 
-  open-few : (side : PortSide) → nat_lt (length s.streams) most_streams ≡ true → IsFew (calls.open_end side (record { 0 = length s.streams }) s)
+  open-few : (side : PortSide) → nat_lt (length s.streams) most_streams ≡ true → IsFew (pipe_calls.open_end side (record { 0 = length s.streams }) s)
   open-few ReadableSide k = room-one most_streams s.streams _ k
   open-few WritableSide k = room-one most_streams s.streams _ k
 

@@ -7,8 +7,10 @@ use Rattle.ws_steps.specs.declared.effects.Effect.TheVariants.{Readable as OnRea
 use Rattle.ws_steps.specs.declared.{locks.Lock.{Lock}, locks.Lock.TheVariants.{Reader, ByobReader, Writer, ReleasedWriter, Inner}}
 use Rattle.ws_steps.specs.declared.readable.{ReadRequest.TheVariants.{Promise}, ReadableOperation.TheVariants.{Read}}
 use Rattle.ws_steps.specs.Bytes as byte
-use Rattle.ws_steps.specs.Calls as calls
-use Rattle.ws_steps.specs.Calls.{Begun, begin}
+use Rattle.ws_steps.specs.Begun as replying
+use Rattle.ws_steps.specs.LockCalls as lock_calls
+use Rattle.ws_steps.specs.Begun.{Begun}
+use Rattle.ws_steps.specs.Calls.{begin}
 use Rattle.ws_steps.specs.Pipes as pipe
 use Rattle.ws_steps.specs.Promises.{next_id}
 use Rattle.ws_steps.specs.Queues.{is_empty}
@@ -65,10 +67,10 @@ element-room n element (inr (inl e)) m few = rw e (rw (fits 2 n (whole-two n (rw
 element-room n element (inr (inr (inl e))) m few = rw e (rw (fits 4 n (whole-four n (rw e at m) few)) refl)
 element-room n element (inr (inr (inr e))) m few = rw e (rw (fits 8 n (whole-eight n (rw e at m) few)) refl)
 
-least-room : (n element least : ℕ) → (calls.is_view n element && nat_eq least 1) ≡ true → 1 ≤ n → byte.is_least n element (least * element) ≡ true
+least-room : (n element least : ℕ) → (lock_calls.is_view n element && nat_eq least 1) ≡ true → 1 ≤ n → byte.is_least n element (least * element) ≡ true
 least-room n element least e few =
-    let view = and_left (calls.is_view n element) (nat_eq least 1) e in
-    let one : least ≡ 1 = eq_numbers least 1 (and_right (calls.is_view n element) (nat_eq least 1) e) in
+    let view = and_left (lock_calls.is_view n element) (nat_eq least 1) e in
+    let one : least ≡ 1 = eq_numbers least 1 (and_right (lock_calls.is_view n element) (nat_eq least 1) e) in
     let kind = and_left _ (nat_eq (n % element) 0) view in
     let whole = and_right _ (nat_eq (n % element) 0) view in
     rw one (element-room n element (view-element element kind) (eq_numbers (n % element) 0 whole) few)
@@ -85,17 +87,17 @@ module _ (room : List ℕ) (element least : ℕ) (s : Slots) (l : LockId) (k : (
   abbrev Fits : Begun → Type 0
   Fits b = ReadsFirst b.done.caused × Asks b.done.slots b.done.caused
 
-  reads : byte.is_least (length room) element (least * element) ≡ true → (i : StreamId) (closed : PromiseId) → lock_at l s ≡ Some (ByobReader (Some i) closed) → Fits (calls.read_into room element least i s)
+  reads : byte.is_least (length room) element (least * element) ≡ true → (i : StreamId) (closed : PromiseId) → lock_at l s ≡ Some (ByobReader (Some i) closed) → Fits (lock_calls.read_into room element least i s)
   reads fit i closed e =
       let n = count-there (has_byob i) l.0 s.locks (ByobReader (Some i) closed) e in
       let self = ap one_if (is_same-refl i) in
       (tt, record { some = omega (arith, n, self); own = own-of s l i (ByobReader (Some i) closed) (next_id s.promises) self e (k i); promised = λ p. refl; least = fit })
 
   by_lock : (holding : StreamId → Slots → Begun) (lock : Option Lock) → lock_at l s ≡ lock → ((i : StreamId) (closed : PromiseId) → lock_at l s ≡ Some (ByobReader (Some i) closed) → Fits (holding i s))
-      → Fits (calls.by_byob_reader holding calls.rejected s lock)
+      → Fits (lock_calls.by_byob_reader holding replying.rejected s lock)
   by_lock holding None e h = (tt, tt)
   by_lock holding (Some (Reader stream closed)) e h = (tt, tt)
-  by_lock holding (Some (ByobReader (Some i) closed)) e h = either Fits (has_source i s) (holding i s) (calls.unsupported s) (λ there. h i closed e) (λ none. (tt, tt))
+  by_lock holding (Some (ByobReader (Some i) closed)) e h = either Fits (has_source i s) (holding i s) (replying.unsupported s) (λ there. h i closed e) (λ none. (tt, tt))
   by_lock holding (Some (ByobReader None closed)) e h = (tt, tt)
   by_lock holding (Some (Writer i)) e h = (tt, tt)
   by_lock holding (Some (ReleasedWriter w)) e h = (tt, tt)
@@ -104,7 +106,7 @@ module _ (room : List ℕ) (element least : ℕ) (s : Slots) (l : LockId) (k : (
   pub into-asks : Fits (begin (ReadInto l room element least) s)
   unfolding begin
   into-asks =
-      either Fits (not (calls.is_view (length room) element && nat_eq least 1)) (calls.unsupported s) _ (λ e. (tt, tt))
-      (λ e. either Fits (is_empty room) (calls.by_byob_reader (λ i. calls.rejected) calls.rejected s (lock_at l s)) (calls.by_byob_reader (calls.read_into room element least) calls.rejected s (lock_at l s))
-      (λ f. by_lock (λ i. calls.rejected) (lock_at l s) refl (λ i closed g. (tt, tt)))
-      (λ f. by_lock (calls.read_into room element least) (lock_at l s) refl (reads (least-room (length room) element least (not_not _ e) (some-room room f)))))
+      either Fits (not (lock_calls.is_view (length room) element && nat_eq least 1)) (replying.unsupported s) _ (λ e. (tt, tt))
+      (λ e. either Fits (is_empty room) (lock_calls.by_byob_reader (λ i. replying.rejected) replying.rejected s (lock_at l s)) (lock_calls.by_byob_reader (lock_calls.read_into room element least) replying.rejected s (lock_at l s))
+      (λ f. by_lock (λ i. replying.rejected) (lock_at l s) refl (λ i closed g. (tt, tt)))
+      (λ f. by_lock (lock_calls.read_into room element least) (lock_at l s) refl (reads (least-room (length room) element least (not_not _ e) (some-room room f)))))

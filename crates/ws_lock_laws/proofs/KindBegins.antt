@@ -12,8 +12,12 @@ use Rattle.ws_steps.specs.declared.{pipes.Prevent.{Prevent}, readable.SizeBy.The
 use Rattle.ws_steps.specs.declared.readable.ReadableOperation.TheVariants.{ReleaseReader}
 use Rattle.ws_steps.specs.declared.writable.WritableOperation.TheVariants.{ReleaseWriter}
 use Rattle.ws_steps.specs.Bytes as byte
-use Rattle.ws_steps.specs.Calls as calls
-use Rattle.ws_steps.specs.Calls.{Begun, begin, add_stream}
+use Rattle.ws_steps.specs.MakingCalls as making_calls
+use Rattle.ws_steps.specs.LockCalls as lock_calls
+use Rattle.ws_steps.specs.PipeCalls as pipe_calls
+use Rattle.ws_steps.specs.Begun.{Begun}
+use Rattle.ws_steps.specs.MakingCalls.{add_stream}
+use Rattle.ws_steps.specs.Calls.{begin}
 use Rattle.ws_steps.specs.Histories.{is_same}
 use Rattle.ws_steps.specs.Pipes as pipe
 use Rattle.ws_steps.specs.Promises.{Table, next_id, fresh, is_pending_at}
@@ -107,62 +111,62 @@ module _ (i : StreamId) (s : Slots) (k : OfKind i s []) where
 
   -- a reader goes
   released : (l : LockId) (j : StreamId) (closed : PromiseId) (old : Lock) (new : PromiseId → Lock) → lock_at l s ≡ Some old → ((p : PromiseId) → (has_default i (new p) ≡ false) × (has_byob i (new p) ≡ false))
-      → OfKind i (calls.release_reader new l closed j s).done.slots (calls.release_reader new l closed j s).done.caused
+      → OfKind i (lock_calls.release_reader new l closed j s).done.slots (lock_calls.release_reader new l closed j s).done.caused
   released l j closed old new e none =
       let kept : Bool = readable.is_readable (source_at j s).state in
-      let next : Lock = new (calls.renewed closed s.promises kept) in
+      let next : Lock = new (lock_calls.renewed closed s.promises kept) in
       let m = count-set (has_default i) l.0 s.locks old next e in
       let n = count-set (has_byob i) l.0 s.locks old next e in
-      let x = ap one_if (none (calls.renewed closed s.promises kept)).0 in
-      let y = ap one_if (none (calls.renewed closed s.promises kept)).1 in
-      let none_taken = each-append IsNoTake (calls.reject_renewed s.promises kept) (OnReadable j ReleaseReader ∷ []) (no_takes _ (renewed-calm s.promises kept)) (tt, tt) in
-      leaves (calls.release_reader new l closed j s).done.slots (calls.release_reader new l closed j s).done.caused (omega (arith, n, y)) (omega (arith, m, x)) refl (default_none-all i _ none_taken) (byob_none-all i _ none_taken)
+      let x = ap one_if (none (lock_calls.renewed closed s.promises kept)).0 in
+      let y = ap one_if (none (lock_calls.renewed closed s.promises kept)).1 in
+      let none_taken = each-append IsNoTake (lock_calls.reject_renewed s.promises kept) (OnReadable j ReleaseReader ∷ []) (no_takes _ (renewed-calm s.promises kept)) (tt, tt) in
+      leaves (lock_calls.release_reader new l closed j s).done.slots (lock_calls.release_reader new l closed j s).done.caused (omega (arith, n, y)) (omega (arith, m, x)) refl (default_none-all i _ none_taken) (byob_none-all i _ none_taken)
 
-  writer-released : (l : LockId) (j : StreamId) (w : Writer) → lock_at l s ≡ Some (WriterLock j) → OfKind i (calls.release_writer l j w s).done.slots (calls.release_writer l j w s).done.caused
+  writer-released : (l : LockId) (j : StreamId) (w : Writer) → lock_at l s ≡ Some (WriterLock j) → OfKind i (lock_calls.release_writer l j w s).done.slots (lock_calls.release_writer l j w s).done.caused
   writer-released l j w e =
       let ready : Bool = is_pending_at w.ready s.promises in
-      let t : Table = calls.with_renewed s.promises ready in
+      let t : Table = lock_calls.with_renewed s.promises ready in
       let closed : Bool = is_pending_at w.closed t in
-      let next : Lock = ReleasedWriter (record { ready = calls.renewed w.ready s.promises ready; closed = calls.renewed w.closed t closed }) in
+      let next : Lock = ReleasedWriter (record { ready = lock_calls.renewed w.ready s.promises ready; closed = lock_calls.renewed w.closed t closed }) in
       let m = count-set (has_default i) l.0 s.locks (WriterLock j) next e in
       let n = count-set (has_byob i) l.0 s.locks (WriterLock j) next e in
       let none_taken =
-      each-append IsNoTake (calls.reject_renewed s.promises ready) (calls.reject_renewed t closed ++ OnWritable j ReleaseWriter ∷ []) (no_takes _ (renewed-calm s.promises ready))
-      (each-append IsNoTake (calls.reject_renewed t closed) (OnWritable j ReleaseWriter ∷ []) (no_takes _ (renewed-calm t closed)) (tt, tt)) in
-      leaves (calls.release_writer l j w s).done.slots (calls.release_writer l j w s).done.caused (omega (arith, n)) (omega (arith, m)) refl (default_none-all i _ none_taken) (byob_none-all i _ none_taken)
+      each-append IsNoTake (lock_calls.reject_renewed s.promises ready) (lock_calls.reject_renewed t closed ++ OnWritable j ReleaseWriter ∷ []) (no_takes _ (renewed-calm s.promises ready))
+      (each-append IsNoTake (lock_calls.reject_renewed t closed) (OnWritable j ReleaseWriter ∷ []) (no_takes _ (renewed-calm t closed)) (tt, tt)) in
+      leaves (lock_calls.release_writer l j w s).done.slots (lock_calls.release_writer l j w s).done.caused (omega (arith, n)) (omega (arith, m)) refl (default_none-all i _ none_taken) (byob_none-all i _ none_taken)
 
   -- a pipe takes its source
   piped : (source dest : StreamId) (prevent : Prevent) (signal : Option SignalId) → is_some (source_at source s).reader ≡ false
-      → OfKind i (calls.pipe_to source dest prevent signal s).done.slots (calls.pipe_to source dest prevent signal s).done.caused
+      → OfKind i (pipe_calls.pipe_to source dest prevent signal s).done.slots (pipe_calls.pipe_to source dest prevent signal s).done.caused
   piped source dest prevent signal free =
       let t : Table = s.promises in
       let w : Writer = record { ready = next_id (fresh t); closed = next_id (fresh (fresh t)) } in
       let x : pipe.Slots = pipe.set_up source dest prevent signal (next_id (fresh (fresh (fresh t)))) in
       let me : PipeId = record { 0 = length s.pipes } in
-      let last : List Effect = calls.pipe_begins me (next_id t) w.closed signal (calls.reason_of signal s) in
-      let calm = no_takes last (begins-calm me (next_id t) w.closed signal (calls.reason_of signal s)) in
+      let last : List Effect = pipe_calls.pipe_begins me (next_id t) w.closed signal (pipe_calls.reason_of signal s) in
+      let calm = no_takes last (begins-calm me (next_id t) w.closed signal (pipe_calls.reason_of signal s)) in
       let d = default_none-all i last calm in
       let b = byob_none-all i last calm in
       let m = inner-count (has_default i) s.locks refl in
       let n = inner-count (has_byob i) s.locks refl in
       let p = pipes-append Reading i s.pipes x in
-      default-enters (calls.pipe_to source dest prevent signal s).done.slots (calls.pipe_to source dest prevent signal s).done.caused (is_same i source) (omega (arith, n)) (omega (arith, m, p)) refl (omega (arith, d)) (omega (arith, b)) (unlocked source free)
+      default-enters (pipe_calls.pipe_to source dest prevent signal s).done.slots (pipe_calls.pipe_to source dest prevent signal s).done.caused (is_same i source) (omega (arith, n)) (omega (arith, m, p)) refl (omega (arith, d)) (omega (arith, b)) (unlocked source free)
 
 -- the two halves of a transform stream
-halved : (i : StreamId) (s : Slots) → OfKind i s [] → (kind : Kind) (m n : ℕ) (start : StartBy) (j l : StreamId) → OfKind i (calls.make_transform kind m n start j l s).done.slots (calls.make_transform kind m n start j l s).done.caused
+halved : (i : StreamId) (s : Slots) → OfKind i s [] → (kind : Kind) (m n : ℕ) (start : StartBy) (j l : StreamId) → OfKind i (making_calls.make_transform kind m n start j l s).done.slots (making_calls.make_transform kind m n start j l s).done.caused
 halved i s k kind m n start j l =
     let me : TransformId = record { 0 = length s.transforms } in
     let w : Stream = WritableStream (writable.set_up (HalfOf me) m Count) in
     let r : Stream = ReadableStream (readable.set_up (HalfOf me) n Count) in
-    let first : Effect = calls.start_transform (next_id (fresh s.promises)) l start in
+    let first : Effect = making_calls.start_transform (next_id (fresh s.promises)) l start in
     let one : OfKind i (add_stream w s) [] = made i s k w [] (λ m n. tt) tt in
-    let two = made i (add_stream w s) one r (calls.make_transform kind m n start j l s).done.caused (λ m n. tt)
+    let two = made i (add_stream w s) one r (making_calls.make_transform kind m n start j l s).done.caused (λ m n. tt)
     (tt, (tt, (tt, (tt, (calm_takes first (start-calm (next_id (fresh s.promises)) l start), tt))))) in
     record { default_taken = two.default_taken; byob_taken = two.byob_taken; kind = two.kind }
 
 -- a tee takes its source, which was there, and its branches are new
 teed : (i : StreamId) (s : Slots) → OfKind i s [] → (source j l : StreamId) → has_readable source s ≡ true → is_some (source_at source s).reader ≡ false
-    → OfKind i (calls.make_tee source j l s).done.slots (calls.make_tee source j l s).done.caused
+    → OfKind i (making_calls.make_tee source j l s).done.slots (making_calls.make_tee source j l s).done.caused
 teed i s k source j l there free =
     let me : TeeId = record { 0 = length s.tees } in
     let x : Stream = ReadableStream (readable.set_up (BranchOf me First) 1 Count) in
@@ -178,21 +182,21 @@ teed i s k source j l there free =
     let m = inner-one (has_default i) s.locks refl in
     let n = inner-one (has_byob i) s.locks refl in
     let p = tees-append Reading i s.tees new in
-    default-enters i both two (calls.make_tee source j l s).done.slots (calls.make_tee source j l s).done.caused (is_same i source) (omega (arith, n)) (omega (arith, m, p)) refl (omega arith) refl (unlocked i both two source open_)
+    default-enters i both two (making_calls.make_tee source j l s).done.slots (making_calls.make_tee source j l s).done.caused (is_same i source) (omega (arith, n)) (omega (arith, m, p)) refl (omega arith) refl (unlocked i both two source open_)
 
 -- a port, and its stream, which is new
 
-started : (i : StreamId) (side : PortSide) (j : StreamId) (z : Slots) (es : List Effect) → OfKind i z es → OfKind i z (calls.start_end j side ∷ es)
+started : (i : StreamId) (side : PortSide) (j : StreamId) (z : Slots) (es : List Effect) → OfKind i z es → OfKind i z (pipe_calls.start_end j side ∷ es)
 started i side j z es k =
-    let first : List Effect = calls.start_end j side ∷ [] in
-    let none : Each IsNoTake first = (calm_takes (calls.start_end j side) (end-calm side j), tt) in
+    let first : List Effect = pipe_calls.start_end j side ∷ [] in
+    let none : Each IsNoTake first = (calm_takes (pipe_calls.start_end j side) (end-calm side j), tt) in
     let d = default_none-all i first none in
     let b = byob_none-all i first none in
     let m = k.default_taken in
     let n = k.byob_taken in
     record { default_taken = omega (arith, d, m); byob_taken = omega (arith, b, n); kind = k.kind }
 
-ported : (i : StreamId) (s : Slots) → OfKind i s [] → (side : PortSide) → OfKind i (calls.add_port (record { 0 = length s.streams }) s side) []
+ported : (i : StreamId) (s : Slots) → OfKind i s [] → (side : PortSide) → OfKind i (pipe_calls.add_port (record { 0 = length s.streams }) s side) []
 ported i s k ReadableSide =
     let one = made i s k (ReadableStream (readable.set_up (EndOf (record { 0 = length s.ports })) 0 Count)) [] (λ m n. tt) tt in
     record { default_taken = one.default_taken; byob_taken = one.byob_taken; kind = one.kind }
@@ -203,21 +207,21 @@ ported i s k WritableSide =
 -- and a pipe takes it, with a stream that was there
 
 sent_readable : (i : StreamId) (s : Slots) → OfKind i s [] → (source : StreamId) → has_source source s ≡ true → is_some (source_at source s).reader ≡ false
-    → let b : Begun = calls.send_readable source (record { 0 = length s.streams }) s in OfKind i b.done.slots b.done.caused
+    → let b : Begun = pipe_calls.send_readable source (record { 0 = length s.streams }) s in OfKind i b.done.slots b.done.caused
 sent_readable i s k source there free =
     let j : StreamId = record { 0 = length s.streams } in
     let w : Stream = WritableStream (writable.set_up (EndOf (record { 0 = length s.ports })) 1 Count) in
-    let z : Slots = calls.add_port j s WritableSide in
+    let z : Slots = pipe_calls.add_port j s WritableSide in
     let here : slice_get z.streams source.0 ≡ slice_get s.streams source.0 = source-stays (slice_get s.streams source.0) s.streams w source.0 refl there in
-    started i WritableSide j _ _ (piped i z (ported i s k WritableSide) source j calls.no_prevent None (rw here free))
+    started i WritableSide j _ _ (piped i z (ported i s k WritableSide) source j pipe_calls.no_prevent None (rw here free))
 
-sent_writable : (i : StreamId) (s : Slots) → OfKind i s [] → (dest : StreamId) → let b : Begun = calls.send_writable dest (record { 0 = length s.streams }) s in OfKind i b.done.slots b.done.caused
+sent_writable : (i : StreamId) (s : Slots) → OfKind i s [] → (dest : StreamId) → let b : Begun = pipe_calls.send_writable dest (record { 0 = length s.streams }) s in OfKind i b.done.slots b.done.caused
 sent_writable i s k dest =
     let j : StreamId = record { 0 = length s.streams } in
     let r : Stream = ReadableStream (readable.set_up (EndOf (record { 0 = length s.ports })) 0 Count) in
-    let z : Slots = calls.add_port j s ReadableSide in
+    let z : Slots = pipe_calls.add_port j s ReadableSide in
     let new : slice_get z.streams j.0 ≡ Some r = place_last s.streams r in
-    started i ReadableSide j _ _ (piped i z (ported i s k ReadableSide) j dest calls.no_prevent None (rw new refl))
+    started i ReadableSide j _ _ (piped i z (ported i s k ReadableSide) j dest pipe_calls.no_prevent None (rw new refl))
 
 pub call-kind : (i : StreamId) (c : Call) (s : Slots) → OfKind i s [] → OfKind i (begin c s).done.slots (begin c s).done.caused
 call-kind i c s k =
@@ -234,16 +238,16 @@ call-kind i c s k =
           let l : Lock = Reader (Some j) (next_id s.promises) in
           let m = count-append (has_default i) s.locks l in
           let n = count-append (has_byob i) s.locks l in
-          default-enters i s k (calls.get_reader j s).done.slots (calls.get_reader j s).done.caused (is_same i j) (omega (arith, n)) (omega (arith, m)) refl (omega arith) refl (unlocked i s k j free);
+          default-enters i s k (making_calls.get_reader j s).done.slots (making_calls.get_reader j s).done.caused (is_same i j) (omega (arith, n)) (omega (arith, m)) refl (omega arith) refl (unlocked i s k j free);
       get_byob = λ j is free.
           let l : Lock = ByobReader (Some j) (next_id s.promises) in
           let m = count-append (has_default i) s.locks l in
           let n = count-append (has_byob i) s.locks l in
-          byob-enters i s k (calls.get_byob j s).done.slots (calls.get_byob j s).done.caused (is_same i j) (omega (arith, n)) (omega (arith, m)) refl refl (omega arith) (unlocked i s k j free);
+          byob-enters i s k (making_calls.get_byob j s).done.slots (making_calls.get_byob j s).done.caused (is_same i j) (omega (arith, n)) (omega (arith, m)) refl refl (omega arith) (unlocked i s k j free);
       get_writer = λ j free.
           let m = count-append (has_default i) s.locks (WriterLock j) in
           let n = count-append (has_byob i) s.locks (WriterLock j) in
-          leaves i s k (calls.get_writer j s).done.slots (calls.get_writer j s).done.caused (omega (arith, n)) (omega (arith, m)) refl refl refl;
+          leaves i s k (making_calls.get_writer j s).done.slots (making_calls.get_writer j s).done.caused (omega (arith, n)) (omega (arith, m)) refl refl refl;
       release_reader = λ l closed j e. released i s k l j closed (Reader (Some j) closed) (Reader None) e (λ p. (refl, refl));
       release_byob = λ l closed j e. released i s k l j closed (ByobReader (Some j) closed) (ByobReader None) e (λ p. (refl, refl));
       release_writer = λ l j w e f. writer-released i s k l j w e;

@@ -19,8 +19,14 @@ use Rattle.ws_steps.specs.declared.readable.ReadableOperation.TheVariants.{Initi
 use Rattle.ws_steps.specs.declared.readable.ReadRequest.TheVariants.{Promise}
 use Rattle.ws_steps.specs.declared.writable.{WritableOperation.{WritableOperation}, WritableOperation.TheVariants.{ReleaseWriter}, Writer.{Writer}}
 use Rattle.ws_steps.specs.declared.writable.WritableOperation.TheVariants as write
-use Rattle.ws_steps.specs.Calls as calls
-use Rattle.ws_steps.specs.Calls.{Begun, begin, by_reader, is_byob_reader, by_default_reader, by_byob_reader, by_writer, for_source, for_writable, unlocked_readable, unlocked_writable, abort_unless, for_signal_where, pipe_unlocked}
+use Rattle.ws_steps.specs.Begun as replying
+use Rattle.ws_steps.specs.MakingCalls as making_calls
+use Rattle.ws_steps.specs.LockCalls as lock_calls
+use Rattle.ws_steps.specs.PipeCalls as pipe_calls
+use Rattle.ws_steps.specs.Begun.{Begun, for_source, for_writable, unlocked_readable, unlocked_writable}
+use Rattle.ws_steps.specs.LockCalls.{by_reader, is_byob_reader, by_default_reader, by_byob_reader, by_writer, abort_unless}
+use Rattle.ws_steps.specs.PipeCalls.{for_signal_where, pipe_unlocked}
+use Rattle.ws_steps.specs.Calls.{begin}
 use Rattle.ws_steps.specs.Histories.{is_same}
 use Rattle.ws_steps.specs.Pipes as pipe
 use Rattle.ws_steps.specs.Queues.{is_empty}
@@ -72,10 +78,10 @@ module _ (source dest : StreamId) where
   spares-append [] ys a b = b
   spares-append (x ∷ xs) ys a b = let n = spares-append xs ys in grind (arith, n, a, b)
 
-  renewed-spares : (t : Table) (kept : Bool) → all_spare source dest (calls.reject_renewed t kept) ≡ true
+  renewed-spares : (t : Table) (kept : Bool) → all_spare source dest (lock_calls.reject_renewed t kept) ≡ true
   renewed-spares t kept = grind arith
 
-  begins-spares : (me : PipeId) (a b : PromiseId) (signal : Option SignalId) (reason : Option Plain) → all_spare source dest (calls.pipe_begins me a b signal reason) ≡ true
+  begins-spares : (me : PipeId) (a b : PromiseId) (signal : Option SignalId) (reason : Option Plain) → all_spare source dest (pipe_calls.pipe_begins me a b signal reason) ≡ true
   begins-spares me a b signal (Some r) = refl
   begins-spares me a b None None = refl
   begins-spares me a b (Some g) None = refl
@@ -131,11 +137,11 @@ module _ (source dest : StreamId) where
 
     with_default : (holding : StreamId → Slots → Begun) (free : Slots → Begun) (l : LockId) (lock : Option Lock) → lock_at l s ≡ lock → ((i : StreamId) → is_same i source ≡ false → Spares (holding i s)) → Spares (free s)
         → Spares (by_default_reader holding free s lock)
-    with_default holding free l lock e k f = either Spares (is_byob_reader lock) (calls.unsupported s) (by_reader holding free s lock) (λ h. refl) (λ h. with_reader holding free l lock e k f)
+    with_default holding free l lock e k f = either Spares (is_byob_reader lock) (replying.unsupported s) (by_reader holding free s lock) (λ h. refl) (λ h. with_reader holding free l lock e k f)
 
     with_byob : (holding : StreamId → Slots → Begun) (free : Slots → Begun) (l : LockId) (lock : Option Lock) → lock_at l s ≡ lock → ((i : StreamId) → is_same i source ≡ false → Spares (holding i s)) → Spares (free s)
         → Spares (by_byob_reader holding free s lock)
-    with_byob holding free l lock e k f = either Spares (is_byob_reader lock) (by_reader holding free s lock) (calls.unsupported s) (λ h. with_reader holding free l lock e k f) (λ h. refl)
+    with_byob holding free l lock e k f = either Spares (is_byob_reader lock) (by_reader holding free s lock) (replying.unsupported s) (λ h. with_reader holding free l lock e k f) (λ h. refl)
 
     with_writer : (holding : StreamId → Slots → Begun) (free : Slots → Begun) (l : LockId) (lock : Option Lock) → lock_at l s ≡ lock → ((i : StreamId) → is_same i dest ≡ false → Spares (holding i s)) → Spares (free s)
         → Spares (by_writer holding free s lock)
@@ -159,39 +165,39 @@ module _ (source dest : StreamId) where
     aborts reason i None n = alone_writer i (write.Abort reason (next_id s.promises)) n
     aborts reason i (Some p) n = refl
 
-    leaves : (i : StreamId) → is_same i source ≡ false → let kept : Bool = readable.is_readable (source_at i s).state in all_spare source dest (calls.reject_renewed s.promises kept ++ OnReadable i ReleaseReader ∷ []) ≡ true
+    leaves : (i : StreamId) → is_same i source ≡ false → let kept : Bool = readable.is_readable (source_at i s).state in all_spare source dest (lock_calls.reject_renewed s.promises kept ++ OnReadable i ReleaseReader ∷ []) ≡ true
     leaves i n =
         let kept : Bool = readable.is_readable (source_at i s).state in
-        spares-append (calls.reject_renewed s.promises kept) (OnReadable i ReleaseReader ∷ []) (renewed-spares s.promises kept) (alone_reader i ReleaseReader n)
+        spares-append (lock_calls.reject_renewed s.promises kept) (OnReadable i ReleaseReader ∷ []) (renewed-spares s.promises kept) (alone_reader i ReleaseReader n)
 
-    releases : (l : LockId) (lock : Option Lock) → lock_at l s ≡ lock → Spares (calls.release l s lock)
+    releases : (l : LockId) (lock : Option Lock) → lock_at l s ≡ lock → Spares (lock_calls.release l s lock)
     releases l None e = refl
     releases l (Some (Reader (Some i) closed)) e =
-        there_source i (calls.release_reader (Reader None) l closed i) (leaves i (read_apart l i closed (is_same i source) refl e))
+        there_source i (lock_calls.release_reader (Reader None) l closed i) (leaves i (read_apart l i closed (is_same i source) refl e))
     releases l (Some (Reader None closed)) e = refl
     releases l (Some (ByobReader (Some i) closed)) e =
-        there_source i (calls.release_reader (ByobReader None) l closed i) (leaves i (byob_apart l i closed (is_same i source) refl e))
+        there_source i (lock_calls.release_reader (ByobReader None) l closed i) (leaves i (byob_apart l i closed (is_same i source) refl e))
     releases l (Some (ByobReader None closed)) e = refl
     releases l (Some (WriterLock i)) e = by (writable_at i s).writer refl
       where
-        by : (w : Option Writer) → (writable_at i s).writer ≡ w → Spares (calls.of_writer (calls.release_writer l i) s w)
+        by : (w : Option Writer) → (writable_at i s).writer ≡ w → Spares (lock_calls.of_writer (lock_calls.release_writer l i) s w)
         by None has = refl
         by (Some w) has =
             let ready : Bool = is_pending_at w.ready s.promises in
-            let t : Table = calls.with_renewed s.promises ready in
+            let t : Table = lock_calls.with_renewed s.promises ready in
             let closed : Bool = is_pending_at w.closed t in
-            spares-append (calls.reject_renewed s.promises ready) (calls.reject_renewed t closed ++ OnWritable i ReleaseWriter ∷ []) (renewed-spares s.promises ready)
-            (spares-append (calls.reject_renewed t closed) (OnWritable i ReleaseWriter ∷ []) (renewed-spares t closed)
+            spares-append (lock_calls.reject_renewed s.promises ready) (lock_calls.reject_renewed t closed ++ OnWritable i ReleaseWriter ∷ []) (renewed-spares s.promises ready)
+            (spares-append (lock_calls.reject_renewed t closed) (OnWritable i ReleaseWriter ∷ []) (renewed-spares t closed)
             (alone_writer i ReleaseWriter (write_apart l i (writes_there (slice_get s.streams i.0) w has) e)))
     releases l (Some (ReleasedWriter w)) e = refl
     releases l (Some Inner) e = refl
 
-    pipes_to : (from to : StreamId) (prevent : Prevent) (signal : Option SignalId) → is_same from source ≡ false → is_same to dest ≡ false → Spares (calls.pipe_to from to prevent signal s)
+    pipes_to : (from to : StreamId) (prevent : Prevent) (signal : Option SignalId) → is_same from source ≡ false → is_same to dest ≡ false → Spares (pipe_calls.pipe_to from to prevent signal s)
     pipes_to from to prevent signal n m =
-        let last = begins-spares (record { 0 = length s.pipes }) (next_id s.promises) (next_id (fresh (fresh s.promises))) signal (calls.reason_of signal s) in
+        let last = begins-spares (record { 0 = length s.pipes }) (next_id s.promises) (next_id (fresh (fresh s.promises))) signal (pipe_calls.reason_of signal s) in
         rw (n, m, last) refl
 
-    pipes : (from to : StreamId) (prevent : Prevent) (signal : Option SignalId) → Spares (calls.pipe_call from to prevent signal s)
+    pipes : (from to : StreamId) (prevent : Prevent) (signal : Option SignalId) → Spares (pipe_calls.pipe_call from to prevent signal s)
     pipes from to prevent signal =
         there_source from (for_writable to (for_signal_where signal (pipe_unlocked from to prevent signal)))
         (there_writable to (for_signal_where signal (pipe_unlocked from to prevent signal)) (by signal))
@@ -214,36 +220,36 @@ module _ (source dest : StreamId) where
         let none : is_locked Reading source s ≡ false = rw (← same_id j source (sym n), no_stream j s.streams refl) refl in
         false_true (is_locked Reading source s) source_locked none
 
-    opens : (side : PortSide) → all_spare source dest (calls.start_end (record { 0 = length s.streams }) side ∷ []) ≡ true
+    opens : (side : PortSide) → all_spare source dest (pipe_calls.start_end (record { 0 = length s.streams }) side ∷ []) ≡ true
     opens ReadableSide = refl
     opens WritableSide = refl
 
-    sends_readable : (i : StreamId) → is_same i source ≡ false → nat_lt (length s.streams) most_streams ≡ true → Spares (calls.send_readable i (record { 0 = length s.streams }) s)
+    sends_readable : (i : StreamId) → is_same i source ≡ false → nat_lt (length s.streams) most_streams ≡ true → Spares (pipe_calls.send_readable i (record { 0 = length s.streams }) s)
     sends_readable i n room =
         let m = new_dest room in
         let last = begins-spares (record { 0 = length s.pipes }) (next_id (fresh s.promises)) (next_id (fresh (fresh (fresh s.promises)))) None None in
         rw (n, m, last) refl
 
-    sends_writable : (i : StreamId) → is_same i dest ≡ false → Spares (calls.send_writable i (record { 0 = length s.streams }) s)
+    sends_writable : (i : StreamId) → is_same i dest ≡ false → Spares (pipe_calls.send_writable i (record { 0 = length s.streams }) s)
     sends_writable i m =
         let n = new_source (is_same (record { 0 = length s.streams }) source) refl in
         let last = begins-spares (record { 0 = length s.pipes }) (next_id s.promises) (next_id (fresh (fresh s.promises))) None None in
         rw (n, m, last) refl
 
-    sends : (i : StreamId) → Spares (calls.send i s)
+    sends : (i : StreamId) → Spares (pipe_calls.send i s)
     sends i =
         either Spares (has_source i s) _ _
-        (λ h. free_readable i calls.throws_data_clone (λ from. calls.make_stream (calls.send_readable from)) refl
+        (λ h. free_readable i replying.throws_data_clone (λ from. making_calls.make_stream (pipe_calls.send_readable from)) refl
         (λ n. either Spares (nat_lt (length s.streams) most_streams) _ _ (λ room. sends_readable i n room) (λ e. refl)))
-        (λ h. free_writable i calls.throws_data_clone (λ to. calls.make_stream (calls.send_writable to)) refl
+        (λ h. free_writable i replying.throws_data_clone (λ to. making_calls.make_stream (pipe_calls.send_writable to)) refl
         (λ n. either Spares (nat_lt (length s.streams) most_streams) _ _ (λ room. sends_writable i n) (λ e. refl)))
 
-    reads_into : (l : LockId) (room : List ℕ) (element least : ℕ) → Spares (calls.read_into_by room element least s (lock_at l s))
+    reads_into : (l : LockId) (room : List ℕ) (element least : ℕ) → Spares (lock_calls.read_into_by room element least s (lock_at l s))
     reads_into l room element least =
-        either Spares (not (calls.is_view (length room) element && nat_eq least 1)) (calls.unsupported s) _ (λ h. refl)
-        (λ h. either Spares (is_empty room) (by_byob_reader (λ i. calls.rejected) calls.rejected s (lock_at l s)) (by_byob_reader (calls.read_into room element least) calls.rejected s (lock_at l s))
-        (λ g. with_byob (λ i. calls.rejected) calls.rejected l (lock_at l s) refl (λ i n. refl) refl)
-        (λ g. with_byob (calls.read_into room element least) calls.rejected l (lock_at l s) refl (λ i n. alone_byob i (PullInto room element (least * element) (Promise (next_id s.promises))) n) refl))
+        either Spares (not (lock_calls.is_view (length room) element && nat_eq least 1)) (replying.unsupported s) _ (λ h. refl)
+        (λ h. either Spares (is_empty room) (by_byob_reader (λ i. replying.rejected) replying.rejected s (lock_at l s)) (by_byob_reader (lock_calls.read_into room element least) replying.rejected s (lock_at l s))
+        (λ g. with_byob (λ i. replying.rejected) replying.rejected l (lock_at l s) refl (λ i n. refl) refl)
+        (λ g. with_byob (lock_calls.read_into room element least) replying.rejected l (lock_at l s) refl (λ i n. alone_byob i (PullInto room element (least * element) (Promise (next_id s.promises))) n) refl))
 
     -- calls that have to do with no lock
     abbrev IsApart : Call → Type 0
@@ -272,20 +278,20 @@ module _ (source dest : StreamId) where
 
     pub each_call : (c : Call) → Spares (begin c s)
     unfolding begin
-    each_call (GetReader i) = free_readable i calls.throws_type_error calls.get_reader refl (λ n. alone_reader i (InitializeReader (next_id s.promises)) n)
+    each_call (GetReader i) = free_readable i replying.throws_type_error making_calls.get_reader refl (λ n. alone_reader i (InitializeReader (next_id s.promises)) n)
     each_call (GetByob i) =
-        free_readable i calls.throws_type_error calls.get_byob_of refl
-        (λ n. either Spares (has_byte i s) (calls.get_byob i s) (calls.throws_type_error s) (λ h. alone_byob i (InitializeByobReader (next_id s.promises)) n) (λ h. refl))
-    each_call (GetWriter i) = free_writable i calls.throws_type_error calls.get_writer refl (λ n. alone_writer i (write.SetUpWriter (record { ready = next_id s.promises; closed = next_id (fresh s.promises) })) n)
-    each_call (Cancel i reason) = free_readable i calls.rejected (calls.cancel reason) refl (λ n. alone_reader i (CancelStream reason (next_id s.promises)) n)
-    each_call (CancelBy l reason) = with_reader (calls.cancel reason) calls.rejected l (lock_at l s) refl (λ i n. alone_reader i (CancelStream reason (next_id s.promises)) n) refl
+        free_readable i replying.throws_type_error making_calls.get_byob_of refl
+        (λ n. either Spares (has_byte i s) (making_calls.get_byob i s) (replying.throws_type_error s) (λ h. alone_byob i (InitializeByobReader (next_id s.promises)) n) (λ h. refl))
+    each_call (GetWriter i) = free_writable i replying.throws_type_error making_calls.get_writer refl (λ n. alone_writer i (write.SetUpWriter (record { ready = next_id s.promises; closed = next_id (fresh s.promises) })) n)
+    each_call (Cancel i reason) = free_readable i replying.rejected (lock_calls.cancel reason) refl (λ n. alone_reader i (CancelStream reason (next_id s.promises)) n)
+    each_call (CancelBy l reason) = with_reader (lock_calls.cancel reason) replying.rejected l (lock_at l s) refl (λ i n. alone_reader i (CancelStream reason (next_id s.promises)) n) refl
     each_call (ReadInto l room element least) = reads_into l room element least
-    each_call (Read l) = with_default calls.read calls.rejected l (lock_at l s) refl (λ i n. alone_reader i (ReadChunk (Promise (next_id s.promises))) n) refl
-    each_call (Write l v) = with_writer (calls.write v) calls.rejected l (lock_at l s) refl (λ i n. alone_writer i (write.Write v (next_id s.promises)) n) refl
-    each_call (Close i) = free_writable i calls.rejected calls.close refl (λ n. alone_writer i (write.Close (next_id s.promises)) n)
-    each_call (CloseBy l) = with_writer calls.close calls.rejected l (lock_at l s) refl (λ i n. alone_writer i (write.Close (next_id s.promises)) n) refl
-    each_call (Abort i reason) = free_writable i calls.rejected (calls.abort reason) refl (λ n. aborts reason i (writable.answered_abort (writable_at i s)) n)
-    each_call (AbortBy l reason) = with_writer (calls.abort reason) calls.rejected l (lock_at l s) refl (λ i n. aborts reason i (writable.answered_abort (writable_at i s)) n) refl
+    each_call (Read l) = with_default lock_calls.read replying.rejected l (lock_at l s) refl (λ i n. alone_reader i (ReadChunk (Promise (next_id s.promises))) n) refl
+    each_call (Write l v) = with_writer (lock_calls.write v) replying.rejected l (lock_at l s) refl (λ i n. alone_writer i (write.Write v (next_id s.promises)) n) refl
+    each_call (Close i) = free_writable i replying.rejected lock_calls.close refl (λ n. alone_writer i (write.Close (next_id s.promises)) n)
+    each_call (CloseBy l) = with_writer lock_calls.close replying.rejected l (lock_at l s) refl (λ i n. alone_writer i (write.Close (next_id s.promises)) n) refl
+    each_call (Abort i reason) = free_writable i replying.rejected (lock_calls.abort reason) refl (λ n. aborts reason i (writable.answered_abort (writable_at i s)) n)
+    each_call (AbortBy l reason) = with_writer (lock_calls.abort reason) replying.rejected l (lock_at l s) refl (λ i n. aborts reason i (writable.answered_abort (writable_at i s)) n) refl
     each_call (Release l) = releases l (lock_at l s) refl
     each_call (Pipe from to prevent signal) = pipes from to prevent signal
     each_call (Send i) = sends i

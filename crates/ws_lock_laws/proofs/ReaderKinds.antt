@@ -14,7 +14,8 @@ use Rattle.ws_steps.specs.Pipes as pipe
 use Rattle.ws_steps.specs.Slots.{Slots, Stream, ReadableStream, ByteStream, WritableStream, Done, ends_at, has_byte, byte_at, on_byte, on_pipe_at, is_byte_stream}
 use Rattle.ws_steps.specs.Turns.{row, on_source}
 use Rattle.ws_laws.proofs.Lists.{Each, each-append}
-use Rattle.ws_laws.proofs.Rows.{IsApart, IsNoPipe, row-causes, row-locks, row-pipes, row-streams}
+use Rattle.ws_laws.proofs.Apart.{IsApart, IsNoPipe, row-locks, row-pipes, row-streams}
+use Rattle.ws_laws.proofs.Causes.{row-causes}
 use Rattle.ws_laws.proofs.StaysBytes.{row-byte}
 use Rattle.ws_laws.proofs.Tables.{is_same-refl, same_id, byte_acts, byte_there, on_byte-same, on_byte-other, on_source-byte, on_source-other, on_writable-look}
 use Rattle.ws_writable_laws.proofs.Shape.{all, all-append}

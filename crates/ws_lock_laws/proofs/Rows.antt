@@ -27,7 +27,8 @@ use Rattle.ws_steps.specs.Slots.{Slots, Stream, ReadableStream, ByteStream, Writ
 use Rattle.ws_steps.specs.Turns.{row, on_source}
 use Rattle.ws_laws.proofs.Lists.{Each, each-append, each-map}
 use Rattle.ws_laws.proofs.PipeDoes.{pipe-causes}
-use Rattle.ws_laws.proofs.Rows.{Causes, IsApart, IsNoPipe, row-causes, row-locks, row-pipes, row-streams}
+use Rattle.ws_laws.proofs.Apart.{IsApart, IsNoPipe, row-locks, row-pipes, row-streams}
+use Rattle.ws_laws.proofs.Causes.{Causes, row-causes}
 use Rattle.ws_laws.proofs.Tables.{either, is_same-refl, same_id, readable_acts, byte_acts, writable_acts, readable_there, byte_there, writable_there, on_readable-same, on_readable-other, on_byte-same, on_byte-other, on_byte-look, on_source-byte, on_source-readable, on_source-other, on_writable-same, on_writable-other}
 use Rattle.ws_laws.proofs.TransformDoes.{TransformCauses}
 use Rattle.ws_writable_laws.proofs.Shape.{all, all-append}

@@ -18,8 +18,11 @@ use Rattle.ws_steps.specs.declared.readable.{ReadRequest.{ReadRequest}, ReadRequ
 use Rattle.ws_steps.specs.declared.{readable.SizeBy.TheVariants.{Count}, transform.TransformId.{TransformId}}
 use Rattle.ws_steps.specs.declared.writable.WritableOperation.TheVariants.{ReleaseWriter}
 use Rattle.ws_steps.specs.ByteLaws.{EachByteStreamIsMeant}
-use Rattle.ws_steps.specs.Calls as calls
-use Rattle.ws_steps.specs.Calls.{Begun, begin}
+use Rattle.ws_steps.specs.MakingCalls as making_calls
+use Rattle.ws_steps.specs.LockCalls as lock_calls
+use Rattle.ws_steps.specs.PipeCalls as pipe_calls
+use Rattle.ws_steps.specs.Begun.{Begun}
+use Rattle.ws_steps.specs.Calls.{begin}
 use Rattle.ws_steps.specs.Histories.{is_same}
 use Rattle.ws_steps.specs.Jobs.{job_effects}
 use Rattle.ws_steps.specs.Operations.{pipe_operation}
@@ -109,15 +112,15 @@ row-known s e es k =
 silent : (z : Slots) (es : List Effect) → Each IsNoRead es → ReadsFirst es × Asks z es
 silent z es n = (none-first es n, none-asks z es n)
 
-renewed-silent : (t : Table) (kept : Bool) → Each IsNoRead (calls.reject_renewed t kept)
+renewed-silent : (t : Table) (kept : Bool) → Each IsNoRead (lock_calls.reject_renewed t kept)
 renewed-silent t kept = grind arith
 
-begins-silent : (me : PipeId) (a b : PromiseId) (signal : Option SignalId) (reason : Option Plain) → Each IsNoRead (calls.pipe_begins me a b signal reason)
+begins-silent : (me : PipeId) (a b : PromiseId) (signal : Option SignalId) (reason : Option Plain) → Each IsNoRead (pipe_calls.pipe_begins me a b signal reason)
 begins-silent me a b signal (Some r) = (tt, tt)
 begins-silent me a b None None = grind arith
 begins-silent me a b (Some g) None = grind arith
 
-start-silent : (q : PromiseId) (j : StreamId) (start : StartBy) → IsNoRead (calls.start_transform q j start)
+start-silent : (q : PromiseId) (j : StreamId) (start : StartBy) → IsNoRead (making_calls.start_transform q j start)
 start-silent q j Now = tt
 start-silent q j Later = tt
 
@@ -129,7 +132,7 @@ abbrev IsNoInto : Call → Type 0
 IsNoInto (ReadInto l room element least) = ⊥
 IsNoInto _ = Unit {0}
 
-end-silent : (side : PortSide) (s : Slots) → let d : Done = (calls.open_end side (record { 0 = length s.streams }) s).done in ReadsFirst d.caused × Asks d.slots d.caused
+end-silent : (side : PortSide) (s : Slots) → let d : Done = (pipe_calls.open_end side (record { 0 = length s.streams }) s).done in ReadsFirst d.caused × Asks d.slots d.caused
 end-silent ReadableSide s = (tt, tt)
 end-silent WritableSide s = (tt, tt)
 
@@ -142,7 +145,7 @@ other-asks c s other k = each_call (λ (b : Begun). ReadsFirst b.done.caused × 
   get_byob = λ i is e. (tt, tt);
   release_byob = λ l closed i e.
       let kept : Bool = readable.is_readable (source_at i s).state in
-      silent (calls.release_reader (ByobReader None) l closed i s).done.slots _ (each-append IsNoRead (calls.reject_renewed s.promises kept) (OnReadable i ReleaseReader ∷ []) (renewed-silent s.promises kept) (tt, tt));
+      silent (lock_calls.release_reader (ByobReader None) l closed i s).done.slots _ (each-append IsNoRead (lock_calls.reject_renewed s.promises kept) (OnReadable i ReleaseReader ∷ []) (renewed-silent s.promises kept) (tt, tt));
   read_into = λ l i closed room element least e f. absurd (subst IsNoInto e other);
   enqueue_bytes = λ i b e is some can. (tt, tt);
   finish_bytes = λ i e is can. (tt, tt);
@@ -153,13 +156,13 @@ other-asks c s other k = each_call (λ (b : Begun). ReadsFirst b.done.caused × 
   get_writer = λ i e. (tt, tt);
   release_reader = λ l closed i e.
       let kept : Bool = readable.is_readable (source_at i s).state in
-      silent (calls.release_reader (Reader None) l closed i s).done.slots _ (each-append IsNoRead (calls.reject_renewed s.promises kept) (OnReadable i ReleaseReader ∷ []) (renewed-silent s.promises kept) (tt, tt));
+      silent (lock_calls.release_reader (Reader None) l closed i s).done.slots _ (each-append IsNoRead (lock_calls.reject_renewed s.promises kept) (OnReadable i ReleaseReader ∷ []) (renewed-silent s.promises kept) (tt, tt));
   release_writer = λ l i w e f.
       let ready : Bool = is_pending_at w.ready s.promises in
-      let t : Table = calls.with_renewed s.promises ready in
+      let t : Table = lock_calls.with_renewed s.promises ready in
       let closed : Bool = is_pending_at w.closed t in
-      silent (calls.release_writer l i w s).done.slots _ (each-append IsNoRead (calls.reject_renewed s.promises ready) _ (renewed-silent s.promises ready)
-      (each-append IsNoRead (calls.reject_renewed t closed) (OnWritable i ReleaseWriter ∷ []) (renewed-silent t closed) (tt, tt)));
+      silent (lock_calls.release_writer l i w s).done.slots _ (each-append IsNoRead (lock_calls.reject_renewed s.promises ready) _ (renewed-silent s.promises ready)
+      (each-append IsNoRead (lock_calls.reject_renewed t closed) (OnWritable i ReleaseWriter ∷ []) (renewed-silent t closed) (tt, tt)));
   cancel = λ reason i. (tt, tt);
   read = λ l i closed e f. (tt, reader-asks s l i closed (next_id s.promises) f (k i));
   write = λ l v i e. (tt, tt);
@@ -175,7 +178,7 @@ other-asks c s other k = each_call (λ (b : Begun). ReadsFirst b.done.caused × 
   fail_readable = λ i reason. (tt, tt);
   fail_writable = λ i reason. (tt, tt);
   pipe = λ source dest prevent signal e f l m.
-      ((tt, (tt, begins-silent (record { 0 = length s.pipes }) (next_id s.promises) (next_id (fresh (fresh s.promises))) signal (calls.reason_of signal s))), tt);
+      ((tt, (tt, begins-silent (record { 0 = length s.pipes }) (next_id s.promises) (next_id (fresh (fresh s.promises))) signal (pipe_calls.reason_of signal s))), tt);
   make_signal = (tt, tt);
   open_end = λ side. end-silent side s;
   send_readable = λ source there free.
@@ -234,7 +237,7 @@ stream-made i x s none k = by (nat_eq i.0 (length s.streams)) refl
         rw (now) (record { free = λ f. rw none (omega arith); own = λ p h. rw none (omega arith) })
 
 port-queued : (i : StreamId) (side : PortSide) (s : Slots) → Queued i (slice_get s.streams i.0) s.pipes
-    → let z : Slots = calls.add_port (record { 0 = length s.streams }) s side in Queued i (slice_get z.streams i.0) z.pipes
+    → let z : Slots = pipe_calls.add_port (record { 0 = length s.streams }) s side in Queued i (slice_get z.streams i.0) z.pipes
 port-queued i ReadableSide s k = stream-made i (ReadableStream (readable.set_up (EndOf (record { 0 = length s.ports })) 0 Count)) s refl k
 port-queued i WritableSide s k = stream-made i (WritableStream (writable.set_up (EndOf (record { 0 = length s.ports })) 1 Count)) s refl k
 
@@ -265,11 +268,11 @@ call-queued c s k = each_call (λ (b : Begun). EachQueued b.done.slots) c s (rec
       let me : TeeId = record { 0 = length s.tees } in
       let x : Stream = ReadableStream (readable.set_up (BranchOf me First) 1 Count) in
       let y : Stream = ReadableStream (readable.set_up (BranchOf me Second) 1 Count) in
-      stream-made i y (calls.add_stream x s) refl (stream-made i x s refl (k i));
+      stream-made i y (making_calls.add_stream x s) refl (stream-made i x s refl (k i));
   make_transform = λ kind m n start i.
       let me : TransformId = record { 0 = length s.transforms } in
       let w : Stream = WritableStream (writable.set_up (HalfOf me) m Count) in
-      stream-made i (ReadableStream (readable.set_up (HalfOf me) n Count)) (calls.add_stream w s) refl (stream-made i w s refl (k i));
+      stream-made i (ReadableStream (readable.set_up (HalfOf me) n Count)) (making_calls.add_stream w s) refl (stream-made i w s refl (k i));
   enqueue = λ i v e o can. k;
   enqueue_half = λ i t v e o can. k;
   fail_half = λ t reason. k;
@@ -282,15 +285,15 @@ call-queued c s k = each_call (λ (b : Begun). EachQueued b.done.slots) c s (rec
   open_end = λ side i. port-queued i side s (k i);
   send_readable = λ source there free i.
       let w : Stream = WritableStream (writable.set_up (EndOf (record { 0 = length s.ports })) 1 Count) in
-      let z : Slots = calls.add_port (record { 0 = length s.streams }) s WritableSide in
+      let z : Slots = pipe_calls.add_port (record { 0 = length s.streams }) s WritableSide in
       let here : slice_get z.streams source.0 ≡ slice_get s.streams source.0 = source-stays (slice_get s.streams source.0) s.streams w source.0 refl there in
-      pipe-made i source (record { 0 = length s.streams }) calls.no_prevent None (next_id (fresh (fresh (fresh z.promises)))) z (rw here free) (port-queued i WritableSide s (k i));
+      pipe-made i source (record { 0 = length s.streams }) pipe_calls.no_prevent None (next_id (fresh (fresh (fresh z.promises)))) z (rw here free) (port-queued i WritableSide s (k i));
   send_writable = λ dest there free i.
       let j : StreamId = record { 0 = length s.streams } in
       let r : Stream = ReadableStream (readable.set_up (EndOf (record { 0 = length s.ports })) 0 Count) in
-      let z : Slots = calls.add_port j s ReadableSide in
+      let z : Slots = pipe_calls.add_port j s ReadableSide in
       let new : slice_get z.streams j.0 ≡ Some r = place_last s.streams r in
-      pipe-made i j dest calls.no_prevent None (next_id (fresh (fresh (fresh z.promises)))) z (rw new refl) (port-queued i ReadableSide s (k i));
+      pipe-made i j dest pipe_calls.no_prevent None (next_id (fresh (fresh (fresh z.promises)))) z (rw new refl) (port-queued i ReadableSide s (k i));
   deliver = λ c m asked has. k;
   trigger = λ a reason. k;
   settle = λ h answer q e. k;
@@ -303,20 +306,20 @@ streams-append p [] x e = omega (arith, e)
 streams-append p (z ∷ zs) x e = let h = streams-append p zs x e in omega (arith, h)
 
 module _ (p : PipeId) where
-  renewed-none : (t : Table) (kept : Bool) (es : List Effect) → all (of_effect p) es ≡ 0 → all (of_effect p) (calls.reject_renewed t kept ++ es) ≡ 0
+  renewed-none : (t : Table) (kept : Bool) (es : List Effect) → all (of_effect p) es ≡ 0 → all (of_effect p) (lock_calls.reject_renewed t kept ++ es) ≡ 0
   renewed-none t true es n = n
   renewed-none t false es n = omega (arith, n)
 
-  begins-none : (me : PipeId) (a b : PromiseId) (signal : Option SignalId) (reason : Option Plain) → all (of_effect p) (calls.pipe_begins me a b signal reason) ≡ 0
+  begins-none : (me : PipeId) (a b : PromiseId) (signal : Option SignalId) (reason : Option Plain) → all (of_effect p) (pipe_calls.pipe_begins me a b signal reason) ≡ 0
   begins-none me a b signal (Some r) = let n = no_answer (nat_eq p.0 me.0) in omega (arith, n)
   begins-none me a b None None = refl
   begins-none me a b (Some g) None = refl
 
-  start-none : (q : PromiseId) (j : StreamId) (start : StartBy) → all (of_effect p) (calls.start_transform q j start ∷ []) ≡ 0
+  start-none : (q : PromiseId) (j : StreamId) (start : StartBy) → all (of_effect p) (making_calls.start_transform q j start ∷ []) ≡ 0
   start-none q j Now = refl
   start-none q j Later = refl
 
-  end-none : (side : PortSide) (j : StreamId) → all (of_effect p) (calls.start_end j side ∷ []) ≡ 0
+  end-none : (side : PortSide) (j : StreamId) → all (of_effect p) (pipe_calls.start_end j side ∷ []) ≡ 0
   end-none ReadableSide j = refl
   end-none WritableSide j = refl
 
@@ -339,7 +342,7 @@ module _ (p : PipeId) where
     release_reader = λ l closed i e. renewed-none s.promises (readable.is_readable (source_at i s).state) _ refl;
     release_writer = λ l i w e f.
         let ready : Bool = is_pending_at w.ready s.promises in
-        let t : Table = calls.with_renewed s.promises ready in
+        let t : Table = lock_calls.with_renewed s.promises ready in
         renewed-none s.promises ready _ (renewed-none t (is_pending_at w.closed t) (OnWritable i ReleaseWriter ∷ []) refl);
     cancel = λ reason i. refl;
     read = λ l i closed e f. refl;
@@ -356,7 +359,7 @@ module _ (p : PipeId) where
     fail_readable = λ i reason. refl;
     fail_writable = λ i reason. refl;
     pipe = λ source dest prevent signal e f l m.
-        let n = begins-none (record { 0 = length s.pipes }) (next_id s.promises) (next_id (fresh (fresh s.promises))) signal (calls.reason_of signal s) in
+        let n = begins-none (record { 0 = length s.pipes }) (next_id s.promises) (next_id (fresh (fresh s.promises))) signal (pipe_calls.reason_of signal s) in
         omega (arith, n);
     make_signal = refl;
     open_end = λ side. end-none side _;

@@ -5,7 +5,7 @@ use Rattle.ws_steps.specs.declared.port.Side.TheVariants.{Readable as ReadableSi
 use Rattle.ws_value.specs.declared.ids.PortId.{PortId}
 use Rattle.ws_laws.proofs.PortDoes.{PortCauses}
 use Rattle.ws_lock_laws.proofs.Few.{new_other}
-use Rattle.ws_steps.specs.Calls as calls
+use Rattle.ws_steps.specs.PipeCalls as pipe_calls
 use Rattle.std.proofs.Common.{◌≡◌, ◌≢◌, ℕ, zero, suc, ◌+◌, ◌≤◌, Bool, true, false, ◌&&◌, nat_eq, if◌then◌else◌, is_some, List, [], ◌∷◌, ◌++◌, length, map, All, Option, Some, None, slice_get, refl, sym, ap, subst, ◌∙◌, append_assoc, arith}
 use Rattle.std.proofs.lemmas.List.Elements.{All-nil, All-cons}
 use Rattle.ws_value.specs.declared.ids.{LockId.{LockId}, PipeId.{PipeId}, PromiseId.{PromiseId}, StreamId.{StreamId}, TeeId.{TeeId}}
@@ -19,7 +19,9 @@ use Rattle.ws_steps.specs.declared.readable.{ReadRequest.{ReadRequest}, ReadRequ
 use Rattle.ws_steps.specs.declared.tee.TeeOperation.{TeeOperation}
 use Rattle.ws_steps.specs.declared.transform.TransformId.{TransformId}
 use Rattle.ws_steps.specs.declared.writable.WritableOperation.{WritableOperation}
-use Rattle.ws_steps.specs.Calls.{Begun, begin, make_tee}
+use Rattle.ws_steps.specs.Begun.{Begun}
+use Rattle.ws_steps.specs.MakingCalls.{make_tee}
+use Rattle.ws_steps.specs.Calls.{begin}
 use Rattle.ws_steps.specs.Histories.{is_same}
 use Rattle.ws_steps.specs.Jobs.{job_effects}
 use Rattle.ws_steps.specs.Operations.{readable_operation, byte_readable_operation, byte_operation, writable_operation, pipe_operation, tee_operation}
@@ -34,7 +36,8 @@ use Rattle.ws_laws.proofs.EachCall.{each_call}
 use Rattle.ws_laws.proofs.Halves.{get-stays, call-among_tees}
 use Rattle.ws_laws.proofs.Lists.{Each, each-append, each-map}
 use Rattle.ws_laws.proofs.PipeDoes.{PipeCauses, pipe-causes}
-use Rattle.ws_laws.proofs.Rows.{Causes, IsNoPipe, IsNoTee, row-causes, row-streams}
+use Rattle.ws_laws.proofs.Apart.{IsNoPipe, IsNoTee, row-streams}
+use Rattle.ws_laws.proofs.Causes.{Causes, row-causes}
 use Rattle.ws_laws.proofs.Shapes.{TeeShape, tee_shape, tee_shapes, row-tee_shapes, map-there}
 use Rattle.ws_laws.proofs.Tables.{either, is_same-refl, same_id, eq_numbers, unequal_numbers, readable_acts, byte_acts, readable_there, byte_there, on_readable-same, on_byte-same, on_byte-other, on_source-other, on_writable-same, on_writable-other}
 use Rattle.ws_laws.proofs.TeeDoes.{TeeCauses, tee-causes}
@@ -432,7 +435,7 @@ module _ (t : TeeId) where
         let same : x.source ≡ i = ap (λ (z : TeeShape). z.source) (made-shape s.tees y t.0 x now none) in
         rw same ((tt, (tt, (tt, (tt, tt)))), rw (append_assoc s.streams) (source-free i _ is free))
 
-    opened : (side : PortSide) (x : TeeShape) → slice_get (tee_shapes (calls.open_end side (record { 0 = length s.streams }) s).done.slots) t.0 ≡ Some x → slice_get (tee_shapes s) t.0 ≡ Some x
+    opened : (side : PortSide) (x : TeeShape) → slice_get (tee_shapes (pipe_calls.open_end side (record { 0 = length s.streams }) s).done.slots) t.0 ≡ Some x → slice_get (tee_shapes s) t.0 ≡ Some x
     opened ReadableSide x e = e
     opened WritableSide x e = e
 

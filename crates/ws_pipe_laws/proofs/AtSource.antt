@@ -18,7 +18,8 @@ use Rattle.ws_steps.specs.Turns.{row, chunk_steps, close_steps, error_steps}
 use Rattle.ws_laws.proofs.Lists.{Each}
 use Rattle.ws_laws.proofs.OnReadable.{all_seen}
 use Rattle.ws_laws.proofs.PipeDoes.{PipeCauses}
-use Rattle.ws_laws.proofs.Rows.{IsApart, IsNoPipe, row-causes, row-streams}
+use Rattle.ws_laws.proofs.Apart.{IsApart, IsNoPipe, row-streams}
+use Rattle.ws_laws.proofs.Causes.{row-causes}
 use Rattle.ws_laws.proofs.Tables.{either, readable_acts, writable_acts, readable_there, writable_there, eq_numbers, unequal_numbers, is_same-refl}
 use Rattle.ws_writable_laws.proofs.Shape.{all, all-append}
 use Rattle.ws_pipe_laws.proofs.Reading.{of_readable, of_effect, IsNone, none-all, readable-hands}
@@ -31,7 +32,7 @@ use Rattle.ws_steps.specs.declared.byte.ByteOperation.{ByteOperation}
 use Rattle.ws_steps.specs.Operations.{byte_operation, byte_readable_operation}
 use Rattle.ws_laws.proofs.ByteDoes.{byte_readable-does}
 use Rattle.ws_laws.proofs.Tables.{byte_acts, byte_there}
-use Rattle.ws_laws.proofs.Rows.{of-causes, ReadableCauses}
+use Rattle.ws_laws.proofs.Causes.{of-causes, ReadableCauses}
 use Rattle.ws_laws.proofs.ReadableDoes.{readable-does}
 use Rattle.ws_pipe_laws.proofs.Reading.{ByteHands, byte_given, byte_readable_given, of_byte}
 use Rattle.ws_steps.specs.Effects.{Out}

@@ -16,7 +16,7 @@ use Rattle.ws_steps.specs.Slots.{Slots, Done, empty, ends_at, as_pipe, on_pipe_a
 use Rattle.ws_steps.specs.Turns.{row}
 use Rattle.ws_steps.proofs.PromiseLaws.{slice_get-set_other}
 use Rattle.ws_laws.proofs.Begin.{begin-makes}
-use Rattle.ws_laws.proofs.Rows.{IsNoPipe, row-pipes}
+use Rattle.ws_laws.proofs.Apart.{IsNoPipe, row-pipes}
 use Rattle.ws_laws.proofs.Tables.{eq_numbers, unequal_numbers}
 use Rattle.ws_laws.proofs.Walker.{IsHistory, GoesUntold, RestsUntold, run-holds}
 use Rattle.ws_promise_laws.proofs.Acting.{EachWaits, Waits, waits-stays, waits-heard, none-waits}

@@ -23,7 +23,8 @@ use Rattle.ws_laws.proofs.Begin.{begin-makes}
 use Rattle.ws_laws.proofs.Lists.{each-map}
 use Rattle.ws_laws.proofs.OnReadable.{all_seen-append}
 use Rattle.ws_laws.proofs.PipeDoes.{pipe-causes}
-use Rattle.ws_laws.proofs.Rows.{IsNoPipe, row-causes, row-pipes}
+use Rattle.ws_laws.proofs.Apart.{IsNoPipe, row-pipes}
+use Rattle.ws_laws.proofs.Causes.{row-causes}
 use Rattle.ws_laws.proofs.Tables.{eq_numbers, unequal_numbers, same_id}
 use Rattle.ws_laws.proofs.Walker.{IsHistory, GoesUntold, RestsUntold, run-holds}
 use Rattle.ws_writable_laws.proofs.Shape.{all, all-append}

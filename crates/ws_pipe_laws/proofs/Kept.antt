@@ -15,7 +15,7 @@ use Rattle.ws_steps.specs.Slots.{Slots, Done, ends_at, on_pipe_at}
 use Rattle.ws_steps.specs.Turns.{row, performed}
 use Rattle.ws_steps.proofs.PromiseLaws.{slice_get-set_other}
 use Rattle.ws_laws.proofs.Begin.{begin-makes}
-use Rattle.ws_laws.proofs.Rows.{IsNoPipe, row-pipes}
+use Rattle.ws_laws.proofs.Apart.{IsNoPipe, row-pipes}
 use Rattle.ws_laws.proofs.Tables.{eq_numbers, unequal_numbers}
 use Rattle.ws_laws.proofs.Walker.{Stays, run-stays, performed-goes, untold}
 use Rattle.ws_pipe_laws.proofs.Courses.{place_same, appended}

@@ -5,8 +5,12 @@ use Rattle.std.proofs.Common.{◌≡◌, List, [], ◌∷◌, Option, Some, None
 use Rattle.ws_value.specs.declared.{ids.SignalId.{SignalId}, ids.StreamId.{StreamId}}
 use Rattle.ws_steps.specs.declared.calls.Call.TheVariants.{MakeReadable, MakeBytes, GetByob, ReadInto, Request, Respond, MakeWritable, MakeTransform, GetReader, GetWriter, Tee, Cancel, CancelBy, Read, Write, Close, CloseBy, Abort, AbortBy, Closed, Ready, Release, Enqueue, Finish, Fail, Terminate, Desired, DesiredBy, Pipe, MakeSignal, Trigger, Send, Open, Deliver, Settle, State, Step}
 use Rattle.ws_steps.specs.declared.pipes.Prevent.{Prevent}
-use Rattle.ws_steps.specs.Calls as calls
-use Rattle.ws_steps.specs.Calls.{Begun, begin}
+use Rattle.ws_steps.specs.Begun as replying
+use Rattle.ws_steps.specs.MakingCalls as making_calls
+use Rattle.ws_steps.specs.ControllerCalls as controller_calls
+use Rattle.ws_steps.specs.PipeCalls as pipe_calls
+use Rattle.ws_steps.specs.Begun.{Begun}
+use Rattle.ws_steps.specs.Calls.{begin}
 use Rattle.ws_pipe_laws.specs.PipeMoves.{MakesPipes, MakesNone, MakesOne, SendsReadable, SendsWritable, EachPipeBeginsFlowing}
 use Rattle.ws_steps.specs.Pipes as pipe
 use Rattle.ws_steps.specs.Promises.{next_id, fresh}
@@ -21,19 +25,19 @@ use Rattle.ws_steps.specs.Promises.{Table}
 use Rattle.ws_steps.specs.declared.port.Side.{Side}
 use Rattle.ws_steps.specs.declared.port.Side.TheVariants.{Readable as ReadableSide, Writable as WritableSide}
 
-request-makes : (i : StreamId) (s : Slots) (request : Option RequestId) (ds : List Descriptor) → (calls.request_by i s request ds).done.slots.pipes ≡ s.pipes
+request-makes : (i : StreamId) (s : Slots) (request : Option RequestId) (ds : List Descriptor) → (controller_calls.request_by i s request ds).done.slots.pipes ≡ s.pipes
 request-makes i s request [] = refl
 request-makes i s (Some q) (d ∷ ds) = refl
 request-makes i s None (d ∷ ds) = refl
 
-asked-makes : (i : StreamId) (s : Slots) → (calls.for_byte i (calls.request i) s).done.slots.pipes ≡ s.pipes
+asked-makes : (i : StreamId) (s : Slots) → (replying.for_byte i (controller_calls.request i) s).done.slots.pipes ≡ s.pipes
 asked-makes i s = either (λ (b : Begun). b.done.slots.pipes ≡ s.pipes) (has_byte i s) _ _ (λ e. request-makes i s (byte_at i s).request (byte_at i s).descriptors) (λ e. refl)
 
 module _ (source dest : StreamId) (prevent : Prevent) (signal : Option SignalId) (s : Slots) where
   abbrev Makes : Begun → Type 0
   Makes b = MakesPipes (Pipe source dest prevent signal) s b
 
-  begins-one : Makes (calls.pipe_to source dest prevent signal s)
+  begins-one : Makes (pipe_calls.pipe_to source dest prevent signal s)
   begins-one = MakesOne source dest prevent signal (pipe.set_up source dest prevent signal (next_id (fresh (fresh (fresh s.promises))))) refl refl (record {
     source = refl;
     dest = refl;
@@ -47,16 +51,16 @@ module _ (source dest : StreamId) (prevent : Prevent) (signal : Option SignalId)
     waits = refl;
   })
 
-  unlocked-makes : Makes (calls.pipe_unlocked source dest prevent signal s)
+  unlocked-makes : Makes (pipe_calls.pipe_unlocked source dest prevent signal s)
   unlocked-makes =
       either Makes (readable_looks.is_locked (source_at source s)) _ _ (λ l. MakesNone refl)
       (λ l. either Makes (writable_looks.is_locked (writable_at dest s)) _ _ (λ m. MakesNone refl) (λ m. begins-one))
 
-  signal-makes : (by : Option SignalId) → Makes (calls.for_signal_where by (calls.pipe_unlocked source dest prevent signal) s)
+  signal-makes : (by : Option SignalId) → Makes (pipe_calls.for_signal_where by (pipe_calls.pipe_unlocked source dest prevent signal) s)
   signal-makes None = unlocked-makes
   signal-makes (Some a) = either Makes (has_signal a s) _ _ (λ e. unlocked-makes) (λ e. MakesNone refl)
 
-  pipe-makes : Makes (calls.pipe_call source dest prevent signal s)
+  pipe-makes : Makes (pipe_calls.pipe_call source dest prevent signal s)
   pipe-makes =
       either Makes (has_source source s) _ _
       (λ e. either Makes (has_writable dest s) _ _ (λ f. signal-makes signal) (λ f. MakesNone refl))
@@ -66,10 +70,10 @@ module _ (i : StreamId) (s : Slots) where
   abbrev Sends : Begun → Type 0
   Sends b = MakesPipes (Send i) s b
 
-  readable-sends : has_source i s ≡ true → Sends (calls.send_readable i (record { 0 = length s.streams }) s)
+  readable-sends : has_source i s ≡ true → Sends (pipe_calls.send_readable i (record { 0 = length s.streams }) s)
   readable-sends is =
       let t : Table = fresh s.promises in
-      SendsReadable i (pipe.set_up i (record { 0 = length s.streams }) calls.no_prevent None (next_id (fresh (fresh (fresh t))))) refl is refl (record {
+      SendsReadable i (pipe.set_up i (record { 0 = length s.streams }) pipe_calls.no_prevent None (next_id (fresh (fresh (fresh t))))) refl is refl (record {
         source = refl;
         dest = refl;
         prevent = refl;
@@ -82,9 +86,9 @@ module _ (i : StreamId) (s : Slots) where
         waits = refl;
       })
 
-  writable-sends : has_source i s ≡ false → has_writable i s ≡ true → Sends (calls.send_writable i (record { 0 = length s.streams }) s)
+  writable-sends : has_source i s ≡ false → has_writable i s ≡ true → Sends (pipe_calls.send_writable i (record { 0 = length s.streams }) s)
   writable-sends isnt is =
-      SendsWritable i (pipe.set_up (record { 0 = length s.streams }) i calls.no_prevent None (next_id (fresh (fresh (fresh s.promises))))) refl isnt is refl (record {
+      SendsWritable i (pipe.set_up (record { 0 = length s.streams }) i pipe_calls.no_prevent None (next_id (fresh (fresh (fresh s.promises))))) refl isnt is refl (record {
         source = refl;
         dest = refl;
         prevent = refl;
@@ -97,24 +101,24 @@ module _ (i : StreamId) (s : Slots) where
         waits = refl;
       })
 
-  roomy : (operation : StreamId → Slots → Begun) → Sends (operation (record { 0 = length s.streams }) s) → Sends (calls.make_stream operation s)
+  roomy : (operation : StreamId → Slots → Begun) → Sends (operation (record { 0 = length s.streams }) s) → Sends (making_calls.make_stream operation s)
   roomy operation h = either Sends (nat_lt (length s.streams) most_streams) _ _ (λ e. h) (λ e. MakesNone refl)
 
-  send-makes : Sends (calls.send i s)
+  send-makes : Sends (pipe_calls.send i s)
   send-makes =
       either Sends (has_source i s) _ _
       (λ there. either Sends (has_source i s) _ _
-      (λ e. either Sends (readable_looks.is_locked (source_at i s)) _ _ (λ l. MakesNone refl) (λ l. roomy (calls.send_readable i) (readable-sends e)))
+      (λ e. either Sends (readable_looks.is_locked (source_at i s)) _ _ (λ l. MakesNone refl) (λ l. roomy (pipe_calls.send_readable i) (readable-sends e)))
       (λ e. MakesNone refl))
       (λ isnt. either Sends (has_writable i s) _ _
-      (λ e. either Sends (writable_looks.is_locked (writable_at i s)) _ _ (λ l. MakesNone refl) (λ l. roomy (calls.send_writable i) (writable-sends isnt e)))
+      (λ e. either Sends (writable_looks.is_locked (writable_at i s)) _ _ (λ l. MakesNone refl) (λ l. roomy (pipe_calls.send_writable i) (writable-sends isnt e)))
       (λ e. MakesNone refl))
 
-open-makes : (side : Side) (s : Slots) → (calls.open_end side (record { 0 = length s.streams }) s).done.slots.pipes ≡ s.pipes
+open-makes : (side : Side) (s : Slots) → (pipe_calls.open_end side (record { 0 = length s.streams }) s).done.slots.pipes ≡ s.pipes
 open-makes ReadableSide s = refl
 open-makes WritableSide s = refl
 
-opens-makes : (side : Side) (s : Slots) → (calls.make_stream (calls.open_end side) s).done.slots.pipes ≡ s.pipes
+opens-makes : (side : Side) (s : Slots) → (making_calls.make_stream (pipe_calls.open_end side) s).done.slots.pipes ≡ s.pipes
 opens-makes side s = either (λ (b : Begun). b.done.slots.pipes ≡ s.pipes) (nat_lt (length s.streams) most_streams) _ _ (λ e. open-makes side s) (λ e. refl)
 
 pub each_pipe_begins_flowing : EachPipeBeginsFlowing

@@ -15,8 +15,11 @@ use Rattle.ws_steps.specs.declared.readable.ReadableOperation.TheVariants.{Relea
 use Rattle.ws_steps.specs.declared.writable.WritableOperation.TheVariants.{ReleaseWriter, StartSettled as WritableStartSettled, WriteSettled, CloseSettled, AbortSettled}
 use Rattle.ws_steps.specs.declared.readable.{ReadRequest.{ReadRequest}, ReadRequest.TheVariants.{Promise, Pipe as PipeRequest, Tee as TeeRequest}}
 use Rattle.ws_steps.specs.declared.transform.{TransformId.{TransformId}}
-use Rattle.ws_steps.specs.Calls as calls
-use Rattle.ws_steps.specs.Calls.{Begun, begin, named}
+use Rattle.ws_steps.specs.MakingCalls as making_calls
+use Rattle.ws_steps.specs.LockCalls as lock_calls
+use Rattle.ws_steps.specs.PipeCalls as pipe_calls
+use Rattle.ws_steps.specs.Begun.{Begun}
+use Rattle.ws_steps.specs.Calls.{begin, named}
 use Rattle.ws_steps.specs.Jobs.{job_effects, job_begun, begin_job, steps, resolved, returned}
 use Rattle.ws_steps.specs.Histories.{along}
 use Rattle.ws_steps.specs.Operations.{pipe_operation}
@@ -34,7 +37,8 @@ use Rattle.ws_steps.proofs.PromiseLaws.{slice_get-set_other}
 use Rattle.ws_laws.proofs.EachCall.{each_call}
 use Rattle.ws_laws.proofs.Lists.{Each, each-append, each-map}
 use Rattle.ws_laws.proofs.PipeDoes.{PipeCauses, pipe-causes}
-use Rattle.ws_laws.proofs.Rows.{Causes, ChunkCauses, EndCauses, ErrorCauses, SignalCauses, IsNoPipe, row-causes, row-pipes}
+use Rattle.ws_laws.proofs.Apart.{IsNoPipe, row-pipes}
+use Rattle.ws_laws.proofs.Causes.{Causes, ChunkCauses, EndCauses, ErrorCauses, SignalCauses, row-causes}
 use Rattle.ws_laws.proofs.Tables.{either, eq_numbers, unequal_numbers}
 use Rattle.ws_laws.proofs.TransformDoes.{TransformCauses}
 use Rattle.ws_laws.proofs.Walker.{IsHistory, performed-goes, nothing-told}
@@ -391,20 +395,20 @@ module _ (p : PipeId) where
 
   -- what a call begins with doesn't look
 
-  renewed-look : (t : Table) (kept : Bool) (es : List Effect) → Each IsNoLook es → Each IsNoLook (calls.reject_renewed t kept ++ es)
+  renewed-look : (t : Table) (kept : Bool) (es : List Effect) → Each IsNoLook es → Each IsNoLook (lock_calls.reject_renewed t kept ++ es)
   renewed-look t true es n = n
   renewed-look t false es n = (tt, n)
 
-  begins-look : (me : PipeId) (a b : PromiseId) (signal : Option SignalId) (reason : Option Plain) → Each IsNoLook (calls.pipe_begins me a b signal reason)
+  begins-look : (me : PipeId) (a b : PromiseId) (signal : Option SignalId) (reason : Option Plain) → Each IsNoLook (pipe_calls.pipe_begins me a b signal reason)
   begins-look me a b signal (Some r) = ((λ e. refl), tt)
   begins-look me a b None None = (tt, (tt, (tt, tt)))
   begins-look me a b (Some g) None = (tt, (tt, (tt, (tt, tt))))
 
-  start-look : (q : PromiseId) (j : StreamId) (start : StartBy) → IsNoLook (calls.start_transform q j start)
+  start-look : (q : PromiseId) (j : StreamId) (start : StartBy) → IsNoLook (making_calls.start_transform q j start)
   start-look q j Now = tt
   start-look q j Later = tt
 
-  first-look : (side : Side) (j : StreamId) → IsNoLook (calls.start_end j side)
+  first-look : (side : Side) (j : StreamId) → IsNoLook (pipe_calls.start_end j side)
   first-look ReadableSide j = tt
   first-look WritableSide j = tt
 
@@ -427,8 +431,8 @@ module _ (p : PipeId) where
     release_reader = λ l closed i e. renewed-look s.promises (readable.is_readable (source_at i s).state) (OnReadable i ReleaseReader ∷ []) (tt, tt);
     release_writer = λ l i w e f.
         let ready : Bool = is_pending_at w.ready s.promises in
-        let t : Table = calls.with_renewed s.promises ready in
-        renewed-look s.promises ready (calls.reject_renewed t (is_pending_at w.closed t) ++ OnWritable i ReleaseWriter ∷ []) (renewed-look t (is_pending_at w.closed t) (OnWritable i ReleaseWriter ∷ []) (tt, tt));
+        let t : Table = lock_calls.with_renewed s.promises ready in
+        renewed-look s.promises ready (lock_calls.reject_renewed t (is_pending_at w.closed t) ++ OnWritable i ReleaseWriter ∷ []) (renewed-look t (is_pending_at w.closed t) (OnWritable i ReleaseWriter ∷ []) (tt, tt));
     cancel = λ reason i. (tt, tt);
     read = λ l i closed e f. (tt, tt);
     write = λ l v i e. (tt, tt);
@@ -444,7 +448,7 @@ module _ (p : PipeId) where
     fail_readable = λ i reason. (tt, tt);
     fail_writable = λ i reason. (tt, tt);
     pipe = λ source dest prevent signal e f l m.
-        (tt, (tt, (tt, begins-look (record { 0 = length s.pipes }) (next_id s.promises) (next_id (fresh (fresh s.promises))) signal (calls.reason_of signal s))));
+        (tt, (tt, (tt, begins-look (record { 0 = length s.pipes }) (next_id s.promises) (next_id (fresh (fresh s.promises))) signal (pipe_calls.reason_of signal s))));
     make_signal = tt;
     open_end = λ side. (first-look side _, tt);
     send_readable = λ source there free.

@@ -25,7 +25,7 @@ use Rattle.ws_laws.proofs.Tables.{either, writable_acts}
 use Rattle.ws_laws.proofs.Walker.{Stays, run-stays}
 use Rattle.ws_pipe_laws.specs.SignalLaws.{EachTriggerAbortsInOrder, EachReasonStays}
 use Rattle.ws_steps.specs.declared.effects.Effect.TheVariants.{Byte, CloseStepsWith}
-use Rattle.ws_laws.proofs.Rows.{source-leaves, byte-leaves}
+use Rattle.ws_laws.proofs.Apart.{source-leaves, byte-leaves}
 use Rattle.ws_value.specs.declared.ids.TeeId.{TeeId}
 use Rattle.ws_steps.specs.declared.tee.TeeOperation.{TeeOperation}
 use Rattle.ws_steps.specs.Tee as tee

@@ -20,7 +20,7 @@ use Rattle.ws_steps.specs.Turns.{row}
 use Rattle.ws_steps.specs.Writable.{is_writable, is_closed, is_errored}
 use Rattle.ws_laws.proofs.Lists.{Each, each-append}
 use Rattle.ws_laws.proofs.PipeDoes.{PipeCauses, IsQuiet}
-use Rattle.ws_laws.proofs.Rows.{Causes, ChunkCauses, EndCauses, ErrorCauses, SignalCauses, row-causes}
+use Rattle.ws_laws.proofs.Causes.{Causes, ChunkCauses, EndCauses, ErrorCauses, SignalCauses, row-causes}
 use Rattle.ws_laws.proofs.Tables.{either, eq_numbers}
 use Rattle.ws_laws.proofs.TransformDoes.{TransformCauses}
 use Rattle.ws_steps.specs.declared.effects.Effect.TheVariants.{Byte, CloseStepsWith}

@@ -16,7 +16,7 @@ use Rattle.ws_steps.specs.Slots.{Slots, ends_at, as_pipe, pipe_at, on_pipe_at}
 use Rattle.ws_steps.specs.Turns.{row}
 use Rattle.ws_steps.proofs.PromiseLaws.{slice_get-set_other}
 use Rattle.ws_laws.proofs.Begin.{begin-makes}
-use Rattle.ws_laws.proofs.Rows.{IsNoPipe, row-pipes}
+use Rattle.ws_laws.proofs.Apart.{IsNoPipe, row-pipes}
 use Rattle.ws_laws.proofs.Tables.{eq_numbers, unequal_numbers}
 use Rattle.ws_laws.proofs.Truth.{false_true}
 use Rattle.ws_laws.proofs.Walker.{GoesUntold, RestsUntold, step-goes_untold}

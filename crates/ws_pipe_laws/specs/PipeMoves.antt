@@ -31,7 +31,9 @@ use Rattle.ws_steps.specs.Operations.{pipe_operation}
 use Rattle.ws_pipe_laws.specs.PipeHistory.{shutdown, shutdown_by, is_live, error_after}
 use Rattle.ws_steps.specs.Pipes.{Slots, Acts}
 use Rattle.ws_steps.specs.Promises.{Table, next_id, fresh}
-use Rattle.ws_steps.specs.Calls.{Begun, begin, no_prevent}
+use Rattle.ws_steps.specs.Begun.{Begun}
+use Rattle.ws_steps.specs.PipeCalls.{no_prevent}
+use Rattle.ws_steps.specs.Calls.{begin}
 use Rattle.ws_steps.specs.Run.{Entry, Called, run, step}
 use Rattle.ws_steps.specs.Slots as realm
 use Rattle.ws_steps.specs.Writable.{is_writable}

@@ -8,8 +8,11 @@ use Rattle.ws_steps.specs.declared.effects.Effect.TheVariants.{Writable as OnWri
 use Rattle.ws_steps.specs.declared.promises.{Job.{Job}, Job.TheVariants.{Reaction as ReactionJob, Follow, Settle as SettleJob, Micro as MicroJob}, Micro.TheVariants.{PipeLook, PipeWrite, PipeNoParts, TeeHand}}
 use Rattle.ws_steps.specs.declared.promises.{Step.{Step}, Step.TheVariants.{ReadableStart, ReadablePull, ReturnUndefined, WritableStart, WritableWrite, WritableClose, WritableAbort, PipeEnds, PipeReady, PipeWrote, PipeActed, PipePart, TransformChanged, PortUnblocked, Transformed, TransformFlushed, TransformAborted, TransformCancelled, TeeEnds}}
 use Rattle.ws_steps.specs.declared.writable.{WritableOperation.TheVariants.{ReleaseWriter}}
-use Rattle.ws_steps.specs.Calls as calls
-use Rattle.ws_steps.specs.Calls.{Begun, begin}
+use Rattle.ws_steps.specs.MakingCalls as making_calls
+use Rattle.ws_steps.specs.LockCalls as lock_calls
+use Rattle.ws_steps.specs.PipeCalls as pipe_calls
+use Rattle.ws_steps.specs.Begun.{Begun}
+use Rattle.ws_steps.specs.Calls.{begin}
 use Rattle.ws_steps.specs.Jobs.{job_effects, steps, resolved, returned}
 use Rattle.ws_steps.specs.Promises.{Table, next_id, fresh, is_pending_at}
 use Rattle.ws_steps.specs.Readable as readable
@@ -28,20 +31,20 @@ use Rattle.ws_steps.specs.Slots.{source_at}
 module _ (p : PipeId) where
   -- calls
 
-  renewed-none : (t : Table) (kept : Bool) (es : List Effect) → all (pays p) es ≡ 0 → all (pays p) (calls.reject_renewed t kept ++ es) ≡ 0
+  renewed-none : (t : Table) (kept : Bool) (es : List Effect) → all (pays p) es ≡ 0 → all (pays p) (lock_calls.reject_renewed t kept ++ es) ≡ 0
   renewed-none t true es n = n
   renewed-none t false es n = omega (arith, n)
 
-  begins-none : (me : PipeId) (a b : PromiseId) (signal : Option SignalId) (reason : Option Plain) → all (pays p) (calls.pipe_begins me a b signal reason) ≡ 0
+  begins-none : (me : PipeId) (a b : PromiseId) (signal : Option SignalId) (reason : Option Plain) → all (pays p) (pipe_calls.pipe_begins me a b signal reason) ≡ 0
   begins-none me a b signal (Some r) = let n = no_answer (nat_eq p.0 me.0) in omega (arith, n)
   begins-none me a b None None = refl
   begins-none me a b (Some g) None = refl
 
-  start-none : (q : PromiseId) (j : StreamId) (start : StartBy) → all (pays p) (calls.start_transform q j start ∷ []) ≡ 0
+  start-none : (q : PromiseId) (j : StreamId) (start : StartBy) → all (pays p) (making_calls.start_transform q j start ∷ []) ≡ 0
   start-none q j Now = refl
   start-none q j Later = refl
 
-  end-none : (side : Side) (j : StreamId) → all (pays p) (calls.start_end j side ∷ []) ≡ 0
+  end-none : (side : Side) (j : StreamId) → all (pays p) (pipe_calls.start_end j side ∷ []) ≡ 0
   end-none ReadableSide j = refl
   end-none WritableSide j = refl
 
@@ -64,7 +67,7 @@ module _ (p : PipeId) where
     release_reader = λ l closed i e. renewed-none s.promises (readable.is_readable (source_at i s).state) _ refl;
     release_writer = λ l i w e f.
         let ready : Bool = is_pending_at w.ready s.promises in
-        let t : Table = calls.with_renewed s.promises ready in
+        let t : Table = lock_calls.with_renewed s.promises ready in
         renewed-none s.promises ready _ (renewed-none t (is_pending_at w.closed t) (OnWritable i ReleaseWriter ∷ []) refl);
     cancel = λ reason i. refl;
     read = λ l i closed e f. refl;
@@ -81,7 +84,7 @@ module _ (p : PipeId) where
     fail_readable = λ i reason. refl;
     fail_writable = λ i reason. refl;
     pipe = λ source dest prevent signal e f l m.
-        let n = begins-none (record { 0 = length s.pipes }) (next_id s.promises) (next_id (fresh (fresh s.promises))) signal (calls.reason_of signal s) in
+        let n = begins-none (record { 0 = length s.pipes }) (next_id s.promises) (next_id (fresh (fresh s.promises))) signal (pipe_calls.reason_of signal s) in
         omega (arith, n);
     make_signal = refl;
     open_end = λ side. end-none side _;

@@ -14,7 +14,7 @@ use Rattle.ws_steps.specs.Promises.{Table}
 use Rattle.ws_steps.specs.Slots.{Slots, empty, ends_at, as_pipe, pipe_at, on_pipe_at}
 use Rattle.ws_steps.specs.Turns.{Moment, row}
 use Rattle.ws_steps.proofs.PromiseLaws.{slice_get-set_other}
-use Rattle.ws_laws.proofs.Rows.{IsNoPipe, row-pipes}
+use Rattle.ws_laws.proofs.Apart.{IsNoPipe, row-pipes}
 use Rattle.ws_laws.proofs.Tables.{eq_numbers, unequal_numbers}
 use Rattle.ws_laws.proofs.Truth.{false_true}
 use Rattle.ws_laws.proofs.Walker.{IsHistory, GoesUntold, RestsUntold, run-holds}

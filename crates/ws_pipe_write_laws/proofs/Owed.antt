@@ -62,7 +62,8 @@ use Rattle.ws_steps.specs.declared.effects.Effect.TheVariants.{Byte}
 use Rattle.ws_steps.specs.declared.byte.ByteOperation.{ByteOperation}
 use Rattle.ws_steps.specs.Operations.{byte_operation}
 use Rattle.ws_laws.proofs.ReadableDoes.{OfReadable}
-use Rattle.ws_laws.proofs.Rows.{source-out, byte-out, out_of, source-leaves, byte-leaves}
+use Rattle.ws_laws.proofs.Rows.{source-out, byte-out, out_of}
+use Rattle.ws_laws.proofs.Apart.{source-leaves, byte-leaves}
 use Rattle.ws_steps.specs.Turns.{close_steps_with}
 use Rattle.ws_value.specs.declared.ids.TeeId.{TeeId}
 use Rattle.ws_steps.specs.declared.tee.TeeOperation.{TeeOperation}

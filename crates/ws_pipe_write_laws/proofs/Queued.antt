@@ -23,7 +23,8 @@ use Rattle.ws_steps.proofs.PromiseLaws.{jobs-fresh, slice_get-set_other}
 use Rattle.ws_laws.proofs.Begin.{begin-makes}
 use Rattle.ws_laws.proofs.Cases.{settle-cases, answer-cases, react-cases, follow-cases, unfollow-cases, watch-cases}
 use Rattle.ws_laws.proofs.PipeDoes.{pipe-does}
-use Rattle.ws_laws.proofs.Rows.{Changes, IsNoPipe, row-changes, row-pipes}
+use Rattle.ws_laws.proofs.Rows.{Changes, row-changes}
+use Rattle.ws_laws.proofs.Apart.{IsNoPipe, row-pipes}
 use Rattle.ws_laws.proofs.Tables.{eq_numbers, unequal_numbers}
 use Rattle.ws_laws.proofs.Truth.{or_right}
 use Rattle.ws_laws.proofs.Walker.{Stays, run-stays}

@@ -27,8 +27,11 @@ use Rattle.ws_steps.specs.declared.promises.{Step.{Step}, Step.TheVariants.{Read
 use Rattle.ws_steps.specs.declared.readable.{ReadRequest.{ReadRequest}, ReadRequest.TheVariants.{Promise, Pipe as PipeRequest, Tee as TeeRequest}, ReadableOperation.{ReadableOperation}}
 use Rattle.ws_steps.specs.declared.transform.{TransformId.{TransformId}, TransformOperation.{TransformOperation}, TransformOperation.TheVariants.{TransformChunk}, Halves.{Halves}}
 use Rattle.ws_steps.specs.declared.writable.{WritableOperation.{WritableOperation}, WritableOperation.TheVariants.{ReleaseWriter}}
-use Rattle.ws_steps.specs.Calls as calls
-use Rattle.ws_steps.specs.Calls.{Begun, begin}
+use Rattle.ws_steps.specs.MakingCalls as making_calls
+use Rattle.ws_steps.specs.LockCalls as lock_calls
+use Rattle.ws_steps.specs.PipeCalls as pipe_calls
+use Rattle.ws_steps.specs.Begun.{Begun}
+use Rattle.ws_steps.specs.Calls.{begin}
 use Rattle.ws_steps.specs.Effects.{Out, cause, settling}
 use Rattle.ws_steps.specs.Jobs.{job_effects, steps, resolved, returned}
 use Rattle.ws_steps.specs.Operations.{writable_operation, pipe_operation, signal_operation, transform_operation, tee_operation}
@@ -65,7 +68,8 @@ use Rattle.ws_steps.specs.declared.effects.Effect.TheVariants.{Byte, CloseStepsW
 use Rattle.ws_steps.specs.declared.byte.ByteOperation.{ByteOperation}
 use Rattle.ws_steps.specs.Operations.{byte_operation}
 use Rattle.ws_laws.proofs.ReadableDoes.{OfReadable}
-use Rattle.ws_laws.proofs.Rows.{source-out, byte-out, out_of, source-leaves, byte-leaves}
+use Rattle.ws_laws.proofs.Rows.{source-out, byte-out, out_of}
+use Rattle.ws_laws.proofs.Apart.{source-leaves, byte-leaves}
 
 -- in all there is one where the action is under way, and else none
 abbrev pub Waits : PipeId → Slots → List Effect → Type 0
@@ -354,20 +358,20 @@ module _ (p : PipeId) where
     writable = λ z owner mark size k. k;
   }) c s (omega arith, omega arith)
 
-  renewed-none : (t : Table) (kept : Bool) (es : List Effect) → all (ends_by p) es ≡ 0 → all (ends_by p) (calls.reject_renewed t kept ++ es) ≡ 0
+  renewed-none : (t : Table) (kept : Bool) (es : List Effect) → all (ends_by p) es ≡ 0 → all (ends_by p) (lock_calls.reject_renewed t kept ++ es) ≡ 0
   renewed-none t true es n = n
   renewed-none t false es n = omega (arith, n)
 
-  begins-none : (me : PipeId) (a b : PromiseId) (signal : Option SignalId) (reason : Option Plain) → all (ends_by p) (calls.pipe_begins me a b signal reason) ≡ 0
+  begins-none : (me : PipeId) (a b : PromiseId) (signal : Option SignalId) (reason : Option Plain) → all (ends_by p) (pipe_calls.pipe_begins me a b signal reason) ≡ 0
   begins-none me a b signal (Some r) = refl
   begins-none me a b None None = refl
   begins-none me a b (Some g) None = refl
 
-  start-none : (q : PromiseId) (j : StreamId) (start : StartBy) → all (ends_by p) (calls.start_transform q j start ∷ []) ≡ 0
+  start-none : (q : PromiseId) (j : StreamId) (start : StartBy) → all (ends_by p) (making_calls.start_transform q j start ∷ []) ≡ 0
   start-none q j Now = refl
   start-none q j Later = refl
 
-  end-none : (side : Side) (j : StreamId) → all (ends_by p) (calls.start_end j side ∷ []) ≡ 0
+  end-none : (side : Side) (j : StreamId) → all (ends_by p) (pipe_calls.start_end j side ∷ []) ≡ 0
   end-none ReadableSide j = refl
   end-none WritableSide j = refl
 
@@ -390,7 +394,7 @@ module _ (p : PipeId) where
     release_reader = λ l closed i e. renewed-none s.promises (readable.is_readable (source_at i s).state) _ refl;
     release_writer = λ l i w e f.
         let ready : Bool = is_pending_at w.ready s.promises in
-        let t : Table = calls.with_renewed s.promises ready in
+        let t : Table = lock_calls.with_renewed s.promises ready in
         renewed-none s.promises ready _ (renewed-none t (is_pending_at w.closed t) (OnWritable i ReleaseWriter ∷ []) refl);
     cancel = λ reason i. refl;
     read = λ l i closed e f. refl;
@@ -407,7 +411,7 @@ module _ (p : PipeId) where
     fail_readable = λ i reason. refl;
     fail_writable = λ i reason. refl;
     pipe = λ source dest prevent signal e f l m.
-        let n = begins-none (record { 0 = length s.pipes }) (next_id s.promises) (next_id (fresh (fresh s.promises))) signal (calls.reason_of signal s) in
+        let n = begins-none (record { 0 = length s.pipes }) (next_id s.promises) (next_id (fresh (fresh s.promises))) signal (pipe_calls.reason_of signal s) in
         omega (arith, n);
     make_signal = refl;
     open_end = λ side. end-none side _;

@@ -24,14 +24,20 @@ use Rattle.ws_steps.specs.Cross as cross
 use Rattle.ws_steps.specs.declared.port.Side.{Side}
 use Rattle.ws_steps.specs.declared.port.Side.TheVariants.{Readable as ReadableSide, Writable as WritableSide}
 use Rattle.ws_steps.specs.declared.promises.Step.TheVariants.{ReadableStart, ReadablePull, ReturnUndefined, WritableStart, WritableWrite, WritableClose, WritableAbort, PipeEnds, PipeReady, PipeWrote, PipeActed, PipePart, TransformChanged, PortUnblocked, Transformed, TransformFlushed, TransformAborted, TransformCancelled, TeeEnds}
-use Rattle.ws_steps.specs.Calls as calls
+use Rattle.ws_steps.specs.MakingCalls as making_calls
+use Rattle.ws_steps.specs.LockCalls as lock_calls
+use Rattle.ws_steps.specs.ControllerCalls as controller_calls
+use Rattle.ws_steps.specs.PipeCalls as pipe_calls
 use Rattle.ws_steps.specs.Effects.{type_error}
 use Rattle.ws_steps.specs.Pipes as pipe
 use Rattle.ws_steps.specs.Readable as readable
 use Rattle.ws_steps.specs.Writable as writable
 use Rattle.ws_steps.specs.declared.{effects.Owner.TheVariants.{Host}, readable.ReadRequest.TheVariants.{Promise}, locks.Lock.{Lock}}
 use Rattle.ws_steps.specs.declared.{readable.ReadableOperation.TheVariants.{ReleaseReader, Read, Cancel}, writable.WritableOperation.TheVariants.{ReleaseWriter, Write, Close, Abort}}
-use Rattle.ws_steps.specs.Calls.{Begun, begin, add_stream, promising, does, look}
+use Rattle.ws_steps.specs.Begun.{Begun, promising}
+use Rattle.ws_steps.specs.MakingCalls.{add_stream}
+use Rattle.ws_steps.specs.ControllerCalls.{look}
+use Rattle.ws_steps.specs.Calls.{begin}
 use Rattle.ws_steps.specs.Jobs.{job_effects, steps, resolved, returned}
 use Rattle.ws_steps.specs.Promises.{Table, fresh, next_id, next_job, after_next_job, is_pending_at}
 use Rattle.ws_steps.specs.Slots.{Slots, Stream, ReadableStream, WritableStream, with_promises, writable_at, as_writable, host_at, pending_host}
@@ -72,7 +78,7 @@ in_hosts-set x n [] p e = cc
 in_hosts-set x zero (h ∷ hs) p e = rw e (omega arith)
 in_hosts-set x (suc n) (h ∷ hs) p e = let rest = in_hosts-set x n hs p e in omega arith
 
-host-sound : (h : HostId) (answer : Answer) (p : PromiseId) (s : Slots) → host_at h s ≡ Some p → Sound none s → Begins (calls.settle_host h answer s (Some p))
+host-sound : (h : HostId) (answer : Answer) (p : PromiseId) (s : Slots) → host_at h s ≡ Some p → Sound none s → Begins (controller_calls.settle_host h answer s (Some p))
 host-sound h answer p s e k = record {
   holds =
       holds-less (λ x. 0 + firm_in x s) (loosely_in s) _ (loosely_in s) s.promises k.holds
@@ -107,7 +113,7 @@ when_none false = refl
 
 -- a reader or a writer is released
 
-renewed-sound : (f : PromiseId → ℕ) (s : Slots) (kept : Bool) → Sound f s → Sound (λ x. f x + in_effects x (calls.reject_renewed s.promises kept)) (with_promises (calls.with_renewed s.promises kept) s)
+renewed-sound : (f : PromiseId → ℕ) (s : Slots) (kept : Bool) → Sound f s → Sound (λ x. f x + in_effects x (lock_calls.reject_renewed s.promises kept)) (with_promises (lock_calls.with_renewed s.promises kept) s)
 renewed-sound f s true k = sound-less f (λ x. f x + 0) s (λ x. omega arith) k
 renewed-sound f s false k = sound-less (λ x. f x + names x (next_id s.promises)) _ _ (λ x. omega arith) (fresh-sound f s k)
 
@@ -120,13 +126,13 @@ in_pipes-append : (x : PromiseId) (ps : List pipe.Slots) (p : pipe.Slots) → in
 in_pipes-append x [] p = omega arith
 in_pipes-append x (q ∷ ps) p = let n = in_pipes-append x ps p in omega (arith, n)
 
-in_begins : (x : PromiseId) (me : PipeId) (a b : PromiseId) (signal : Option SignalId) (reason : Option Plain) → in_effects x (calls.pipe_begins me a b signal reason) ≡ 0
+in_begins : (x : PromiseId) (me : PipeId) (a b : PromiseId) (signal : Option SignalId) (reason : Option Plain) → in_effects x (pipe_calls.pipe_begins me a b signal reason) ≡ 0
 in_begins x me a b signal (Some r) = refl
 in_begins x me a b None None = refl
 in_begins x me a b (Some g) None = refl
 
 -- its promise stands in it, and those of its reader and its writer in its effects
-pipe_to-sound : (source dest : StreamId) (prevent : Prevent) (signal : Option SignalId) (s : Slots) → Sound none s → Begins (calls.pipe_to source dest prevent signal s)
+pipe_to-sound : (source dest : StreamId) (prevent : Prevent) (signal : Option SignalId) (s : Slots) → Sound none s → Begins (pipe_calls.pipe_to source dest prevent signal s)
 pipe_to-sound source dest prevent signal s k =
     let a : Slots = with_promises (fresh s.promises) s in
     let b : Slots = with_promises (fresh a.promises) a in
@@ -141,8 +147,8 @@ pipe_to-sound source dest prevent signal s k =
     record {
       holds =
           holds-less (λ x. fd x + firm_in x d) (loosely_in d) _ (loosely_in d) d.promises made.holds
-          (λ x. let n = in_pipes-append x s.pipes new in let m = in_begins x (record { 0 = length s.pipes }) (next_id s.promises) (next_id b.promises) signal (calls.reason_of signal s) in omega (arith, n, m))
-          (λ x. let n = in_pipes-append x s.pipes new in let m = in_begins x (record { 0 = length s.pipes }) (next_id s.promises) (next_id b.promises) signal (calls.reason_of signal s) in omega (arith, n, m));
+          (λ x. let n = in_pipes-append x s.pipes new in let m = in_begins x (record { 0 = length s.pipes }) (next_id s.promises) (next_id b.promises) signal (pipe_calls.reason_of signal s) in omega (arith, n, m))
+          (λ x. let n = in_pipes-append x s.pipes new in let m = in_begins x (record { 0 = length s.pipes }) (next_id s.promises) (next_id b.promises) signal (pipe_calls.reason_of signal s) in omega (arith, n, m));
       calm = k.calm;
     }
 
@@ -152,20 +158,20 @@ in_transforms-append : (x : PromiseId) (ts : List transform.Slots) (t : transfor
 in_transforms-append x [] t = omega arith
 in_transforms-append x (u ∷ ts) t = let n = in_transforms-append x ts t in omega (arith, n)
 
-in_start : (x p : PromiseId) (j : StreamId) (start : StartBy) → in_effects x (calls.start_transform p j start ∷ []) ≡ names x p
+in_start : (x p : PromiseId) (j : StreamId) (start : StartBy) → in_effects x (making_calls.start_transform p j start ∷ []) ≡ names x p
 in_start x p j Now = omega arith
 in_start x p j Later = omega arith
 
 make_transform-sound : (kind : Kind) (m n : ℕ) (start : StartBy) (s : Slots) → Sound none s
-    → Begins (calls.make_transform kind m n start (record { 0 = length s.streams }) (record { 0 = length s.streams + 1 }) s)
+    → Begins (making_calls.make_transform kind m n start (record { 0 = length s.streams }) (record { 0 = length s.streams + 1 }) s)
 make_transform-sound kind m n start s k =
     let me : TransformId = record { 0 = length s.transforms } in
     let i : StreamId = record { 0 = length s.streams } in
     let j : StreamId = record { 0 = length s.streams + 1 } in
     let w : writable.Slots = writable.set_up (HalfOf me) m Count in
     let r : readable.Slots = readable.set_up (HalfOf me) n Count in
-    let one : Slots = calls.add_stream (WritableStream w) s in
-    let two : Slots = calls.add_stream (ReadableStream r) one in
+    let one : Slots = making_calls.add_stream (WritableStream w) s in
+    let two : Slots = making_calls.add_stream (ReadableStream r) one in
     let first : Sound none one = added-sound (WritableStream w) s (λ x. let h = when_none (is_awaited w) in omega arith) (λ x. let h = when_none (not (is_awaited w)) in omega arith) (λ e. refl) k in
     let second : Sound none two = added-sound (ReadableStream r) one (λ x. refl) (λ x. refl) (λ e. refl) first in
     let a : Slots = with_promises (fresh s.promises) two in
@@ -192,13 +198,13 @@ in_tees-append : (x : PromiseId) (ts : List tee.Slots) (t : tee.Slots) → in_te
 in_tees-append x [] t = omega arith
 in_tees-append x (u ∷ ts) t = let n = in_tees-append x ts t in omega (arith, n)
 
-make_tee-sound : (source : StreamId) (s : Slots) → Sound none s → Begins (calls.make_tee source (record { 0 = length s.streams }) (record { 0 = length s.streams + 1 }) s)
+make_tee-sound : (source : StreamId) (s : Slots) → Sound none s → Begins (making_calls.make_tee source (record { 0 = length s.streams }) (record { 0 = length s.streams + 1 }) s)
 make_tee-sound source s k =
     let me : TeeId = record { 0 = length s.tees } in
     let i : StreamId = record { 0 = length s.streams } in
     let j : StreamId = record { 0 = length s.streams + 1 } in
-    let one : Slots = calls.add_branch (BranchOf me First) s in
-    let two : Slots = calls.add_branch (BranchOf me Second) one in
+    let one : Slots = making_calls.add_branch (BranchOf me First) s in
+    let two : Slots = making_calls.add_branch (BranchOf me Second) one in
     let first : Sound none one = added-sound (ReadableStream (readable.set_up (BranchOf me First) 1 Count)) s (λ x. refl) (λ x. refl) (λ e. refl) k in
     let second : Sound none two = added-sound (ReadableStream (readable.set_up (BranchOf me Second) 1 Count)) one (λ x. refl) (λ x. refl) (λ e. refl) first in
     let a : Slots = with_promises (fresh s.promises) two in
@@ -221,12 +227,12 @@ in_ports-append : (x : PromiseId) (cs : List cross.Slots) (c : cross.Slots) → 
 in_ports-append x [] c = omega arith
 in_ports-append x (d ∷ cs) c = let n = in_ports-append x cs c in omega (arith, n)
 
-port-sound : (side : Side) (s : Slots) → Sound none s → Sound none (calls.add_port (record { 0 = length s.streams }) s side)
+port-sound : (side : Side) (s : Slots) → Sound none s → Sound none (pipe_calls.add_port (record { 0 = length s.streams }) s side)
 port-sound ReadableSide s k =
     let me : PortId = record { 0 = length s.ports } in
     let i : StreamId = record { 0 = length s.streams } in
     let r : readable.Slots = readable.set_up (EndOf me) 0 Count in
-    let one : Slots = calls.add_stream (ReadableStream r) s in
+    let one : Slots = making_calls.add_stream (ReadableStream r) s in
     let made : Sound none one = added-sound (ReadableStream r) s (λ x. refl) (λ x. refl) (λ e. refl) k in
     let new : cross.Slots = cross.set_up ReadableSide i None in
     record {
@@ -239,7 +245,7 @@ port-sound WritableSide s k =
     let me : PortId = record { 0 = length s.ports } in
     let i : StreamId = record { 0 = length s.streams } in
     let w : writable.Slots = writable.set_up (EndOf me) 1 Count in
-    let one : Slots = calls.add_stream (WritableStream w) s in
+    let one : Slots = making_calls.add_stream (WritableStream w) s in
     let first : Sound none one = added-sound (WritableStream w) s (λ x. let h = when_none (is_awaited w) in omega arith) (λ x. let h = when_none (not (is_awaited w)) in omega arith) (λ e. refl) k in
     let a : Slots = with_promises (fresh s.promises) one in
     let fa : PromiseId → ℕ = λ x. none x + names x (next_id s.promises) in
@@ -252,18 +258,18 @@ port-sound WritableSide s k =
       calm = made.calm;
     }
 
-in_start_end : (x : PromiseId) (j : StreamId) (side : Side) → of_effect x (calls.start_end j side) ≡ 0
+in_start_end : (x : PromiseId) (j : StreamId) (side : Side) → of_effect x (pipe_calls.start_end j side) ≡ 0
 in_start_end x j ReadableSide = refl
 in_start_end x j WritableSide = refl
 
 -- and a pipe with it
 sent-sound : (source dest j : StreamId) (side : Side) (s : Slots) → Sound none s
-    → Begins (calls.sent_by j side s (calls.pipe_to source dest calls.no_prevent None (calls.add_port (record { 0 = length s.streams }) s side)))
+    → Begins (pipe_calls.sent_by j side s (pipe_calls.pipe_to source dest pipe_calls.no_prevent None (pipe_calls.add_port (record { 0 = length s.streams }) s side)))
 sent-sound source dest j side s k =
-    let a : Slots = calls.add_port (record { 0 = length s.streams }) s side in
-    let piped : Begun = calls.pipe_to source dest calls.no_prevent None a in
+    let a : Slots = pipe_calls.add_port (record { 0 = length s.streams }) s side in
+    let piped : Begun = pipe_calls.pipe_to source dest pipe_calls.no_prevent None a in
     sound-less (λ x. in_effects x piped.done.caused) _ piped.done.slots (λ x. let n = in_start_end x j side in omega (arith, n))
-    (pipe_to-sound source dest calls.no_prevent None a (port-sound side s k))
+    (pipe_to-sound source dest pipe_calls.no_prevent None a (port-sound side s k))
 
 pub begin-sound : (c : Call) (s : Slots) → Sound none s → Begins (begin c s)
 begin-sound c s k = each_call Begins c s (record {
@@ -274,7 +280,7 @@ begin-sound c s k = each_call Begins c s (record {
   get_byob = λ i is e. sound-less (λ x. 0 + names x (next_id s.promises)) _ _ (λ x. omega arith) (locked-sound _ _ _ (fresh-sound none s k));
   release_byob = λ l closed i e.
       let kept : Bool = readable.is_readable (source_at i s).state in
-      let first : List Effect = calls.reject_renewed s.promises kept in
+      let first : List Effect = lock_calls.reject_renewed s.promises kept in
       sound-less (λ x. 0 + in_effects x first) _ _ (λ x. let n = in_effects-append x first (Readable i ReleaseReader ∷ []) in omega arith)
       (locked-sound _ _ _ (renewed-sound none s kept k));
   read_into = λ l i closed room element least e f. promising-sound (λ p. Byte i (PullInto room element (least * element) (Promise p)) ∷ []) s (λ x p. omega arith) k;
@@ -291,15 +297,15 @@ begin-sound c s k = each_call Begins c s (record {
       (locked-sound _ _ _ (fresh-sound (λ x. 0 + names x (next_id s.promises)) t (fresh-sound none s k)));
   release_reader = λ l closed i e.
       let kept : Bool = readable.is_readable (source_at i s).state in
-      let first : List Effect = calls.reject_renewed s.promises kept in
+      let first : List Effect = lock_calls.reject_renewed s.promises kept in
       sound-less (λ x. 0 + in_effects x first) _ _ (λ x. let n = in_effects-append x first (Readable i ReleaseReader ∷ []) in omega arith)
       (locked-sound _ _ _ (renewed-sound none s kept k));
   release_writer = λ l i w e f.
       let ready : Bool = is_pending_at w.ready s.promises in
-      let t : Table = calls.with_renewed s.promises ready in
+      let t : Table = lock_calls.with_renewed s.promises ready in
       let closed : Bool = is_pending_at w.closed t in
-      let first : List Effect = calls.reject_renewed s.promises ready in
-      let second : List Effect = calls.reject_renewed t closed in
+      let first : List Effect = lock_calls.reject_renewed s.promises ready in
+      let second : List Effect = lock_calls.reject_renewed t closed in
       sound-less (λ x. (0 + in_effects x first) + in_effects x second) _ _
       (λ x.
       let m = in_effects-append x first (second ++ Writable i ReleaseWriter ∷ []) in

@@ -10,8 +10,14 @@ use Rattle.ws_steps.specs.declared.{calls.Answer.{Answer}, calls.Call.{Call}, pi
 use Rattle.ws_steps.specs.declared.calls.Call.TheVariants.{MakeReadable, MakeBytes, MakeWritable, MakeTransform, Terminate, GetReader, GetByob, GetWriter, Tee, Cancel, CancelBy, Read, ReadInto, Write, Close, CloseBy, Abort, AbortBy, Closed, Ready, Release, Enqueue, Finish, Fail, Desired, DesiredBy, Pipe, MakeSignal, Trigger, Send, Open, Deliver, Settle, State, Step}
 use Rattle.ws_steps.specs.declared.calls.Reply.TheVariants.{Promise as Named}
 use Rattle.ws_steps.specs.declared.{effects.Effect.{Effect}, effects.Owner.{Owner}, effects.Owner.TheVariants.{Host, HalfOf, BranchOf, EndOf}, locks.Lock.{Lock}, locks.Lock.TheVariants.{Reader as ReaderLock, Writer as WriterLock, ReleasedWriter, Inner}, writable.PendingAbort.{PendingAbort}, writable.Writer.{Writer}}
-use Rattle.ws_steps.specs.Calls as calls
-use Rattle.ws_steps.specs.Calls.{Begun, begin, by_reader, by_writer, of_writer, closed_by, ready_by, renewed, with_renewed}
+use Rattle.ws_steps.specs.Begun as replying
+use Rattle.ws_steps.specs.MakingCalls as making_calls
+use Rattle.ws_steps.specs.LockCalls as lock_calls
+use Rattle.ws_steps.specs.ControllerCalls as controller_calls
+use Rattle.ws_steps.specs.PipeCalls as pipe_calls
+use Rattle.ws_steps.specs.Begun.{Begun}
+use Rattle.ws_steps.specs.LockCalls.{by_reader, by_writer, of_writer, closed_by, ready_by, renewed, with_renewed}
+use Rattle.ws_steps.specs.Calls.{begin}
 use Rattle.ws_steps.specs.Jobs.{job_effects}
 use Rattle.ws_steps.specs.Laws.{EachNameStays}
 use Rattle.ws_steps.specs.Promises as promises
@@ -25,7 +31,7 @@ use Rattle.ws_steps.specs.Writable as writable
 use Rattle.ws_steps.specs.WritableLooks as writable_looks
 use Rattle.std.specs.Prelude.{nat_lt}
 use Rattle.ws_laws.proofs.EachCall.{each_call}
-use Rattle.ws_laws.proofs.Rows.{row-locks}
+use Rattle.ws_laws.proofs.Apart.{row-locks}
 use Rattle.ws_laws.proofs.Tables.{either}
 use Rattle.ws_laws.proofs.Walker.{Stays, called-stays, worked-stays}
 use Rattle.ws_laws.proofs.Watched.{is_there, Whole, Stands, Answers, stands-same, stands-then, grows-entries, grows-fresh, next-there, or_false, named-by, row-grows, begin-grows, next-grows, watch-stands, step-watches}
@@ -172,18 +178,18 @@ by_reader-begins holding free s (Some (WriterLock i)) h f = tt
 by_reader-begins holding free s (Some (ReleasedWriter w)) h f = tt
 by_reader-begins holding free s (Some Inner) h f = tt
 
-by_default-begins : (holding : StreamId → Slots → Begun) (free : Slots → Begun) (s : Slots) (o : Option Lock) → ((i : StreamId) → Begins (holding i s)) → Begins (free s) → Begins (calls.by_default_reader holding free s o)
-by_default-begins holding free s o h f = either Begins (calls.is_byob_reader o) _ _ (λ e. tt) (λ e. by_reader-begins holding free s o h f)
+by_default-begins : (holding : StreamId → Slots → Begun) (free : Slots → Begun) (s : Slots) (o : Option Lock) → ((i : StreamId) → Begins (holding i s)) → Begins (free s) → Begins (lock_calls.by_default_reader holding free s o)
+by_default-begins holding free s o h f = either Begins (lock_calls.is_byob_reader o) _ _ (λ e. tt) (λ e. by_reader-begins holding free s o h f)
 
-by_byob-begins : (holding : StreamId → Slots → Begun) (free : Slots → Begun) (s : Slots) (o : Option Lock) → ((i : StreamId) → Begins (holding i s)) → Begins (free s) → Begins (calls.by_byob_reader holding free s o)
-by_byob-begins holding free s o h f = either Begins (calls.is_byob_reader o) _ _ (λ e. by_reader-begins holding free s o h f) (λ e. tt)
+by_byob-begins : (holding : StreamId → Slots → Begun) (free : Slots → Begun) (s : Slots) (o : Option Lock) → ((i : StreamId) → Begins (holding i s)) → Begins (free s) → Begins (lock_calls.by_byob_reader holding free s o)
+by_byob-begins holding free s o h f = either Begins (lock_calls.is_byob_reader o) _ _ (λ e. by_reader-begins holding free s o h f) (λ e. tt)
 
-read_into-begins : (room : List ℕ) (element least : ℕ) (s : Slots) (o : Option Lock) → Begins (calls.read_into_by room element least s o)
+read_into-begins : (room : List ℕ) (element least : ℕ) (s : Slots) (o : Option Lock) → Begins (lock_calls.read_into_by room element least s o)
 read_into-begins room element least s o =
-    either Begins (not (calls.is_view (length room) element && nat_eq least 1)) _ _ (λ e. tt)
+    either Begins (not (lock_calls.is_view (length room) element && nat_eq least 1)) _ _ (λ e. tt)
     (λ e. either Begins (is_empty room) _ _
-    (λ f. by_byob-begins (λ i. calls.rejected) calls.rejected s o (λ i. next-there s.promises) (next-there s.promises))
-    (λ f. by_byob-begins (calls.read_into room element least) calls.rejected s o (λ i. next-there s.promises) (next-there s.promises)))
+    (λ f. by_byob-begins (λ i. replying.rejected) replying.rejected s o (λ i. next-there s.promises) (next-there s.promises))
+    (λ f. by_byob-begins (lock_calls.read_into room element least) replying.rejected s o (λ i. next-there s.promises) (next-there s.promises)))
 
 by_writer-begins : (holding : StreamId → Slots → Begun) (free : Slots → Begun) (s : Slots) (o : Option Lock) → ((i : StreamId) → Begins (holding i s)) → Begins (free s) → Begins (by_writer holding free s o)
 by_writer-begins holding free s None h f = tt
@@ -193,13 +199,13 @@ by_writer-begins holding free s (Some (WriterLock i)) h f = either Begins (has_w
 by_writer-begins holding free s (Some (ReleasedWriter w)) h f = f
 by_writer-begins holding free s (Some Inner) h f = tt
 
-unlocked_readable-begins : (locked : Slots → Begun) (free : StreamId → Slots → Begun) (s : Slots) (i : StreamId) → Begins (locked s) → Begins (free i s) → Begins (calls.unlocked_readable i locked free s)
+unlocked_readable-begins : (locked : Slots → Begun) (free : StreamId → Slots → Begun) (s : Slots) (i : StreamId) → Begins (locked s) → Begins (free i s) → Begins (replying.unlocked_readable i locked free s)
 unlocked_readable-begins locked free s i l f = either Begins (has_source i s) _ _ (λ e. either Begins (readable_looks.is_locked (source_at i s)) _ _ (λ g. l) (λ g. f)) (λ e. tt)
 
-unlocked_writable-begins : (locked : Slots → Begun) (free : StreamId → Slots → Begun) (s : Slots) (i : StreamId) → Begins (locked s) → Begins (free i s) → Begins (calls.unlocked_writable i locked free s)
+unlocked_writable-begins : (locked : Slots → Begun) (free : StreamId → Slots → Begun) (s : Slots) (i : StreamId) → Begins (locked s) → Begins (free i s) → Begins (replying.unlocked_writable i locked free s)
 unlocked_writable-begins locked free s i l f = either Begins (has_writable i s) _ _ (λ e. either Begins (writable_looks.is_locked (writable_at i s)) _ _ (λ g. l) (λ g. f)) (λ e. tt)
 
-abort-begins : (reason : Plain) (i : StreamId) (s : Slots) (o : Option PromiseId) → ((p : PromiseId) → o ≡ Some p → is_there p s.promises ≡ true) → Begins (calls.abort_unless reason i s o)
+abort-begins : (reason : Plain) (i : StreamId) (s : Slots) (o : Option PromiseId) → ((p : PromiseId) → o ≡ Some p → is_there p s.promises ≡ true) → Begins (lock_calls.abort_unless reason i s o)
 abort-begins reason i s None h = next-there s.promises
 abort-begins reason i s (Some p) h = h p refl
 
@@ -211,7 +217,7 @@ closed-begins : (s : Slots) (l : LockId) (o : Option Lock) → lock_at l s ≡ o
 closed-begins s l None e k = tt
 closed-begins s l (Some (ReaderLock stream closed)) e k = lock_in s.promises s.locks l.0 (ReaderLock stream closed) k.locks e
 closed-begins s l (Some (ByobReader stream closed)) e k = lock_in s.promises s.locks l.0 (ByobReader stream closed) k.locks e
-closed-begins s l (Some (WriterLock i)) e k = of_writer-begins (λ w. calls.replies (Named w.closed)) s (writable_at i s).writer (λ w f. closed-there s i w k f)
+closed-begins s l (Some (WriterLock i)) e k = of_writer-begins (λ w. replying.replies (Named w.closed)) s (writable_at i s).writer (λ w f. closed-there s i w k f)
 closed-begins s l (Some (ReleasedWriter w)) e k = (lock_in s.promises s.locks l.0 (ReleasedWriter w) k.locks e).1
 closed-begins s l (Some Inner) e k = tt
 
@@ -219,96 +225,96 @@ ready-begins : (s : Slots) (l : LockId) (o : Option Lock) → lock_at l s ≡ o 
 ready-begins s l None e k = tt
 ready-begins s l (Some (ReaderLock stream closed)) e k = tt
 ready-begins s l (Some (ByobReader stream closed)) e k = tt
-ready-begins s l (Some (WriterLock i)) e k = of_writer-begins (λ w. calls.replies (Named w.ready)) s (writable_at i s).writer (λ w f. ready-there s i w k f)
+ready-begins s l (Some (WriterLock i)) e k = of_writer-begins (λ w. replying.replies (Named w.ready)) s (writable_at i s).writer (λ w f. ready-there s i w k f)
 ready-begins s l (Some (ReleasedWriter w)) e k = (lock_in s.promises s.locks l.0 (ReleasedWriter w) k.locks e).0
 ready-begins s l (Some Inner) e k = tt
 
-release-begins : (s : Slots) (l : LockId) (o : Option Lock) → Begins (calls.release l s o)
+release-begins : (s : Slots) (l : LockId) (o : Option Lock) → Begins (lock_calls.release l s o)
 release-begins s l None = tt
 release-begins s l (Some (ReaderLock (Some i) closed)) = either Begins (has_source i s) _ _ (λ e. tt) (λ e. tt)
 release-begins s l (Some (ReaderLock None closed)) = tt
 release-begins s l (Some (ByobReader (Some i) closed)) = either Begins (has_source i s) _ _ (λ e. tt) (λ e. tt)
 release-begins s l (Some (ByobReader None closed)) = tt
-release-begins s l (Some (WriterLock i)) = of_writer-begins (calls.release_writer l i) s (writable_at i s).writer (λ w f. tt)
+release-begins s l (Some (WriterLock i)) = of_writer-begins (lock_calls.release_writer l i) s (writable_at i s).writer (λ w f. tt)
 release-begins s l (Some (ReleasedWriter w)) = tt
 release-begins s l (Some Inner) = tt
 
 -- a pipe's promise is the last that its call makes
-pipe-begins : (source dest : StreamId) (prevent : Prevent) (signal : Option SignalId) (s : Slots) → Begins (calls.pipe_unlocked source dest prevent signal s)
+pipe-begins : (source dest : StreamId) (prevent : Prevent) (signal : Option SignalId) (s : Slots) → Begins (pipe_calls.pipe_unlocked source dest prevent signal s)
 pipe-begins source dest prevent signal s =
     either Begins (readable_looks.is_locked (source_at source s)) _ _ (λ e. next-there s.promises)
     (λ e. either Begins (writable_looks.is_locked (writable_at dest s)) _ _ (λ f. next-there s.promises) (λ f. next-there (fresh (fresh (fresh s.promises)))))
 
-signal-begins : (signal : Option SignalId) (operation : Slots → Begun) (s : Slots) → Begins (operation s) → Begins (calls.for_signal_where signal operation s)
+signal-begins : (signal : Option SignalId) (operation : Slots → Begun) (s : Slots) → Begins (operation s) → Begins (pipe_calls.for_signal_where signal operation s)
 signal-begins None operation s h = h
 signal-begins (Some a) operation s h = either Begins (has_signal a s) _ _ (λ e. h) (λ e. tt)
 
-host-begins : (h : HostId) (answer : Answer) (s : Slots) (o : Option PromiseId) → Begins (calls.settle_host h answer s o)
+host-begins : (h : HostId) (answer : Answer) (s : Slots) (o : Option PromiseId) → Begins (controller_calls.settle_host h answer s o)
 host-begins h answer s None = tt
 host-begins h answer s (Some p) = tt
 
 -- calls of controllers, by whose they are, name none
 
-if_it_can-begins : (s : Slots) (i : StreamId) (operation : ReadableOperation) → Begins (calls.if_it_can i operation s)
+if_it_can-begins : (s : Slots) (i : StreamId) (operation : ReadableOperation) → Begins (controller_calls.if_it_can i operation s)
 if_it_can-begins s i operation = either Begins (readable.can_close_or_enqueue (readable_at i s)) _ _ (λ f. tt) (λ f. tt)
 
 -- nor do those of byte controllers
 
-enqueue_bytes-begins : (i : StreamId) (s : Slots) (v : Value) → Begins (calls.enqueue_bytes i s v)
+enqueue_bytes-begins : (i : StreamId) (s : Slots) (v : Value) → Begins (controller_calls.enqueue_bytes i s v)
 enqueue_bytes-begins i s (PlainValue v) = tt
 enqueue_bytes-begins i s (Bytes b) = either Begins (not (is_empty b) && byte.can_take (byte_at i s)) _ _ (λ e. tt) (λ e. tt)
 
-close-names : (b : byte.Slots) (t : Table) → Answers (calls.close_reply b) t
+close-names : (b : byte.Slots) (t : Table) → Answers (controller_calls.close_reply b) t
 close-names b t = either (λ (reply : Reply). Answers reply t) (byte.close_throws b) _ _ (λ e. tt) (λ e. tt)
 
-request-begins : (i : StreamId) (s : Slots) (request : Option RequestId) (ds : List Descriptor) → Begins (calls.request_by i s request ds)
+request-begins : (i : StreamId) (s : Slots) (request : Option RequestId) (ds : List Descriptor) → Begins (controller_calls.request_by i s request ds)
 request-begins i s request [] = tt
 request-begins i s (Some q) (d ∷ ds) = tt
 request-begins i s None (d ∷ ds) = tt
 
-thrown-names : (fault : Fault) (t : Table) → Answers (calls.thrown_by fault) t
+thrown-names : (fault : Fault) (t : Table) → Answers (controller_calls.thrown_by fault) t
 thrown-names fault t = grind arith
 
-respond_unless-begins : (i : StreamId) (b : List ℕ) (s : Slots) (fault : Option Fault) → Begins (calls.respond_unless i b s fault)
+respond_unless-begins : (i : StreamId) (b : List ℕ) (s : Slots) (fault : Option Fault) → Begins (controller_calls.respond_unless i b s fault)
 respond_unless-begins i b s None = tt
 respond_unless-begins i b s (Some fault) = thrown-names fault s.promises
 
-respond-begins : (q : RequestId) (b : List ℕ) (s : Slots) (i : Option StreamId) → Begins (calls.respond q b s i)
+respond-begins : (q : RequestId) (b : List ℕ) (s : Slots) (i : Option StreamId) → Begins (controller_calls.respond q b s i)
 respond-begins q b s None = tt
 respond-begins q b s (Some i) =
-    either Begins (calls.is_request q (byte_at i s).request) _ _ (λ e. respond_unless-begins i b s (respond_throws (length b) (byte_at i s).stream.state (byte_at i s).descriptors)) (λ e. tt)
+    either Begins (controller_calls.is_request q (byte_at i s).request) _ _ (λ e. respond_unless-begins i b s (respond_throws (length b) (byte_at i s).stream.state (byte_at i s).descriptors)) (λ e. tt)
 
-enqueue-begins : (v : Value) (i : StreamId) (s : Slots) (owner : Owner) → Begins (calls.enqueue_by v i s owner)
+enqueue-begins : (v : Value) (i : StreamId) (s : Slots) (owner : Owner) → Begins (controller_calls.enqueue_by v i s owner)
 enqueue-begins v i s Host = if_it_can-begins s i (EnqueueChunk v)
 enqueue-begins v i s (HalfOf t) = either Begins (readable.can_close_or_enqueue (readable_at i s)) _ _ (λ f. tt) (λ f. tt)
 enqueue-begins v i s (BranchOf t half) = tt
 enqueue-begins v i s (EndOf c) = tt
 
-finish-begins : (i : StreamId) (s : Slots) (owner : Owner) → Begins (calls.finish_by i s owner)
+finish-begins : (i : StreamId) (s : Slots) (owner : Owner) → Begins (controller_calls.finish_by i s owner)
 finish-begins i s Host = if_it_can-begins s i CloseReadable
 finish-begins i s (HalfOf t) = tt
 finish-begins i s (BranchOf t half) = tt
 finish-begins i s (EndOf c) = tt
 
-fail_readable-begins : (reason : Plain) (i : StreamId) (s : Slots) (owner : Owner) → Begins (calls.fail_readable_by reason i s owner)
+fail_readable-begins : (reason : Plain) (i : StreamId) (s : Slots) (owner : Owner) → Begins (controller_calls.fail_readable_by reason i s owner)
 fail_readable-begins reason i s Host = tt
 fail_readable-begins reason i s (HalfOf t) = tt
 fail_readable-begins reason i s (BranchOf t half) = tt
 fail_readable-begins reason i s (EndOf c) = tt
 
-fail_writable-begins : (reason : Plain) (i : StreamId) (s : Slots) (owner : Owner) → Begins (calls.fail_writable_by reason i s owner)
+fail_writable-begins : (reason : Plain) (i : StreamId) (s : Slots) (owner : Owner) → Begins (controller_calls.fail_writable_by reason i s owner)
 fail_writable-begins reason i s Host = tt
 fail_writable-begins reason i s (HalfOf t) = tt
 fail_writable-begins reason i s (BranchOf t half) = tt
 fail_writable-begins reason i s (EndOf c) = tt
 
-terminate-begins : (s : Slots) (owner : Owner) → Begins (calls.terminate_by s owner)
+terminate-begins : (s : Slots) (owner : Owner) → Begins (controller_calls.terminate_by s owner)
 terminate-begins s Host = tt
 terminate-begins s (HalfOf t) = tt
 terminate-begins s (BranchOf t half) = tt
 terminate-begins s (EndOf c) = tt
 
-desired-begins : (i : StreamId) (s : Slots) (owner : Owner) → Begins (calls.desired_by i s owner)
+desired-begins : (i : StreamId) (s : Slots) (owner : Owner) → Begins (controller_calls.desired_by i s owner)
 desired-begins i s Host = tt
 desired-begins i s (HalfOf t) = tt
 desired-begins i s (BranchOf t half) = tt
@@ -319,27 +325,27 @@ call-answers : (c : Call) (s : Slots) → Known s → Begins (begin c s)
 unfolding begin
 call-answers (MakeReadable mark size start) s k = either Begins (nat_lt (length s.streams) most_streams) _ _ (λ e. tt) (λ e. tt)
 call-answers (MakeBytes mark auto start) s k = either Begins (nat_lt (length s.streams) most_streams) _ _ (λ e. tt) (λ e. tt)
-call-answers (GetByob i) s k = unlocked_readable-begins calls.throws_type_error calls.get_byob_of s i tt (either Begins (has_byte i s) _ _ (λ e. tt) (λ e. tt))
+call-answers (GetByob i) s k = unlocked_readable-begins replying.throws_type_error making_calls.get_byob_of s i tt (either Begins (has_byte i s) _ _ (λ e. tt) (λ e. tt))
 call-answers (ReadInto l room element least) s k = read_into-begins room element least s (lock_at l s)
 call-answers (Request i) s k = either Begins (has_byte i s) _ _ (λ e. request-begins i s (byte_at i s).request (byte_at i s).descriptors) (λ e. tt)
 call-answers (Respond q b) s k = respond-begins q b s (stream_of_request q s)
 call-answers (MakeWritable mark size start) s k = either Begins (nat_lt (length s.streams) most_streams) _ _ (λ e. tt) (λ e. tt)
 call-answers (MakeTransform kind m n start) s k = either Begins (nat_lt (length s.streams + 1) most_streams) _ _ (λ e. tt) (λ e. tt)
-call-answers (GetReader i) s k = unlocked_readable-begins calls.throws_type_error calls.get_reader s i tt tt
+call-answers (GetReader i) s k = unlocked_readable-begins replying.throws_type_error making_calls.get_reader s i tt tt
 call-answers (Tee i) s k =
-    unlocked_readable-begins calls.throws_type_error calls.tee_of s i tt
+    unlocked_readable-begins replying.throws_type_error making_calls.tee_of s i tt
     (either Begins (has_byte i s) _ _ (λ e. tt) (λ e. either Begins (is_teed i s) _ _ (λ g. tt) (λ g. either Begins (nat_lt (length s.streams + 1) most_streams) _ _ (λ h. tt) (λ h. tt))))
-call-answers (GetWriter i) s k = unlocked_writable-begins calls.throws_type_error calls.get_writer s i tt tt
-call-answers (Cancel i reason) s k = unlocked_readable-begins calls.rejected (calls.cancel reason) s i (next-there s.promises) (next-there s.promises)
-call-answers (CancelBy l reason) s k = by_reader-begins (calls.cancel reason) calls.rejected s (lock_at l s) (λ i. next-there s.promises) (next-there s.promises)
-call-answers (Read l) s k = by_default-begins calls.read calls.rejected s (lock_at l s) (λ i. next-there s.promises) (next-there s.promises)
-call-answers (Write l v) s k = by_writer-begins (calls.write v) calls.rejected s (lock_at l s) (λ i. next-there s.promises) (next-there s.promises)
-call-answers (Close i) s k = unlocked_writable-begins calls.rejected calls.close s i (next-there s.promises) (next-there s.promises)
-call-answers (CloseBy l) s k = by_writer-begins calls.close calls.rejected s (lock_at l s) (λ i. next-there s.promises) (next-there s.promises)
+call-answers (GetWriter i) s k = unlocked_writable-begins replying.throws_type_error making_calls.get_writer s i tt tt
+call-answers (Cancel i reason) s k = unlocked_readable-begins replying.rejected (lock_calls.cancel reason) s i (next-there s.promises) (next-there s.promises)
+call-answers (CancelBy l reason) s k = by_reader-begins (lock_calls.cancel reason) replying.rejected s (lock_at l s) (λ i. next-there s.promises) (next-there s.promises)
+call-answers (Read l) s k = by_default-begins lock_calls.read replying.rejected s (lock_at l s) (λ i. next-there s.promises) (next-there s.promises)
+call-answers (Write l v) s k = by_writer-begins (lock_calls.write v) replying.rejected s (lock_at l s) (λ i. next-there s.promises) (next-there s.promises)
+call-answers (Close i) s k = unlocked_writable-begins replying.rejected lock_calls.close s i (next-there s.promises) (next-there s.promises)
+call-answers (CloseBy l) s k = by_writer-begins lock_calls.close replying.rejected s (lock_at l s) (λ i. next-there s.promises) (next-there s.promises)
 call-answers (Abort i reason) s k =
-    unlocked_writable-begins calls.rejected (calls.abort reason) s i (next-there s.promises) (abort-begins reason i s (writable.answered_abort (writable_at i s)) (λ p e. abort-there s i p k e))
+    unlocked_writable-begins replying.rejected (lock_calls.abort reason) s i (next-there s.promises) (abort-begins reason i s (writable.answered_abort (writable_at i s)) (λ p e. abort-there s i p k e))
 call-answers (AbortBy l reason) s k =
-    by_writer-begins (calls.abort reason) calls.rejected s (lock_at l s) (λ i. abort-begins reason i s (writable.answered_abort (writable_at i s)) (λ p e. abort-there s i p k e)) (next-there s.promises)
+    by_writer-begins (lock_calls.abort reason) replying.rejected s (lock_at l s) (λ i. abort-begins reason i s (writable.answered_abort (writable_at i s)) (λ p e. abort-there s i p k e)) (next-there s.promises)
 call-answers (Closed l) s k = closed-begins s l (lock_at l s) refl k
 call-answers (Ready l) s k = ready-begins s l (lock_at l s) refl k
 call-answers (Release l) s k = release-begins s l (lock_at l s)
@@ -349,17 +355,17 @@ call-answers (Fail i reason) s k =
     either Begins (has_readable i s) _ _ (λ e. fail_readable-begins reason i s (readable_at i s).owner) (λ e. either Begins (has_byte i s) _ _ (λ is. tt) (λ isnt. either Begins (has_writable i s) _ _ (λ f. fail_writable-begins reason i s (writable_at i s).owner) (λ f. tt)))
 call-answers (Terminate i) s k = either Begins (has_readable i s) _ _ (λ e. terminate-begins s (readable_at i s).owner) (λ e. tt)
 call-answers (Desired i) s k = either Begins (has_source i s) _ _ (λ e. desired-begins i s (owner_at i s)) (λ e. tt)
-call-answers (DesiredBy l) s k = by_writer-begins calls.desired_of_writer calls.throws_type_error s (lock_at l s) (λ i. tt) tt
+call-answers (DesiredBy l) s k = by_writer-begins controller_calls.desired_of_writer replying.throws_type_error s (lock_at l s) (λ i. tt) tt
 call-answers (Pipe source dest prevent signal) s k =
     either Begins (has_source source s) _ _
-    (λ e. either Begins (has_writable dest s) _ _ (λ f. signal-begins signal (calls.pipe_unlocked source dest prevent signal) s (pipe-begins source dest prevent signal s)) (λ f. tt))
+    (λ e. either Begins (has_writable dest s) _ _ (λ f. signal-begins signal (pipe_calls.pipe_unlocked source dest prevent signal) s (pipe-begins source dest prevent signal s)) (λ f. tt))
     (λ e. tt)
 call-answers MakeSignal s k = tt
 call-answers (Trigger a reason) s k = either Begins (has_signal a s) _ _ (λ e. tt) (λ e. tt)
 call-answers (Send i) s k =
     either Begins (has_source i s) _ _
-    (λ e. unlocked_readable-begins calls.throws_data_clone (λ source. calls.make_stream (calls.send_readable source)) s i tt (either Begins (nat_lt (length s.streams) most_streams) _ _ (λ f. tt) (λ f. tt)))
-    (λ e. unlocked_writable-begins calls.throws_data_clone (λ dest. calls.make_stream (calls.send_writable dest)) s i tt (either Begins (nat_lt (length s.streams) most_streams) _ _ (λ f. tt) (λ f. tt)))
+    (λ e. unlocked_readable-begins replying.throws_data_clone (λ source. making_calls.make_stream (pipe_calls.send_readable source)) s i tt (either Begins (nat_lt (length s.streams) most_streams) _ _ (λ f. tt) (λ f. tt)))
+    (λ e. unlocked_writable-begins replying.throws_data_clone (λ dest. making_calls.make_stream (pipe_calls.send_writable dest)) s i tt (either Begins (nat_lt (length s.streams) most_streams) _ _ (λ f. tt) (λ f. tt)))
 call-answers (Open side) s k = either Begins (nat_lt (length s.streams) most_streams) _ _ (λ e. tt) (λ e. tt)
 call-answers (Deliver c m) s k = either Begins (has_port c s) _ _ (λ e. tt) (λ e. tt)
 call-answers (Settle h answer) s k = host-begins h answer s (host_at h s)
@@ -379,24 +385,24 @@ renewed-stands t false = (grows-fresh t).stands
 fresh-stands : (t : Table) → Stands t (fresh t)
 fresh-stands t = (grows-fresh t).stands
 
-port-stands : (s : Slots) (side : Side) → Stands s.promises (calls.add_port (record { 0 = length s.streams }) s side).promises
+port-stands : (s : Slots) (side : Side) → Stands s.promises (pipe_calls.add_port (record { 0 = length s.streams }) s side).promises
 port-stands s ReadableSide = stands-same s.promises
 port-stands s WritableSide = fresh-stands s.promises
 
-port-locks : (s : Slots) (side : Side) → (calls.add_port (record { 0 = length s.streams }) s side).locks ≡ s.locks
+port-locks : (s : Slots) (side : Side) → (pipe_calls.add_port (record { 0 = length s.streams }) s side).locks ≡ s.locks
 port-locks s ReadableSide = refl
 port-locks s WritableSide = refl
 
-open-locks : (s : Slots) (side : Side) → OfLocks (calls.add_port (record { 0 = length s.streams }) s side).promises s.locks
-    → let z : Slots = (calls.open_end side (record { 0 = length s.streams }) s).done.slots in OfLocks z.promises z.locks
+open-locks : (s : Slots) (side : Side) → OfLocks (pipe_calls.add_port (record { 0 = length s.streams }) s side).promises s.locks
+    → let z : Slots = (pipe_calls.open_end side (record { 0 = length s.streams }) s).done.slots in OfLocks z.promises z.locks
 open-locks s ReadableSide h = h
 open-locks s WritableSide h = h
 
 -- a pipe keeps two more
-sent-locks : (source dest : StreamId) (side : Side) (s : Slots) → let a : Slots = calls.add_port (record { 0 = length s.streams }) s side in OfLocks a.promises s.locks
-    → let z : Slots = (calls.pipe_to source dest calls.no_prevent None a).done.slots in OfLocks z.promises z.locks
+sent-locks : (source dest : StreamId) (side : Side) (s : Slots) → let a : Slots = pipe_calls.add_port (record { 0 = length s.streams }) s side in OfLocks a.promises s.locks
+    → let z : Slots = (pipe_calls.pipe_to source dest pipe_calls.no_prevent None a).done.slots in OfLocks z.promises z.locks
 sent-locks source dest side s old =
-    let a : Slots = calls.add_port (record { 0 = length s.streams }) s side in
+    let a : Slots = pipe_calls.add_port (record { 0 = length s.streams }) s side in
     let t : Table = a.promises in
     let two : Stands t (fresh (fresh t)) = stands-then t (fresh t) (fresh (fresh t)) (fresh-stands t) (fresh-stands (fresh t)) in
     let four : Stands t (fresh (fresh (fresh (fresh t)))) =

@@ -15,8 +15,11 @@ use Rattle.ws_steps.specs.Promises.{next_job}
 use Rattle.ws_steps.specs.Slots.{Slots, Done, causes, empty, has_source, source_at, lock_at}
 use Rattle.ws_steps.specs.Turns.{row, moments}
 use Rattle.ws_steps.specs.Jobs.{job_effects, job_begun, begin_job}
-use Rattle.ws_steps.specs.Calls.{Begun, begin, unsupported, by_default_reader}
-use Rattle.ws_steps.specs.Calls as calls
+use Rattle.ws_steps.specs.Begun.{Begun, unsupported}
+use Rattle.ws_steps.specs.LockCalls.{by_default_reader}
+use Rattle.ws_steps.specs.Calls.{begin}
+use Rattle.ws_steps.specs.Begun as replying
+use Rattle.ws_steps.specs.LockCalls as lock_calls
 use Rattle.ws_steps.specs.Run.{Entry, Called, Worked, Heard, step, run}
 use Rattle.ws_steps.specs.Histories.{is_same, along}
 use Rattle.ws_steps.specs.ReadableHistory.{Reads, no_reads, reads_then, operation_reads, effect_reads, step_reads, run_reads, promises_of, asked_with, call_asked, asked_in_step, asked_by_calls}
@@ -25,7 +28,7 @@ use Rattle.ws_room_laws.proofs.Turns.{moments_next}
 use Rattle.ws_laws.proofs.Tables.{either}
 use Rattle.ws_laws.proofs.Lists.{Each, each-append, each-map}
 use Rattle.ws_laws.proofs.PipeDoes.{PipeCauses}
-use Rattle.ws_laws.proofs.Rows.{Causes, ChunkCauses, EndCauses, ErrorCauses, SignalCauses, row-causes}
+use Rattle.ws_laws.proofs.Causes.{Causes, ChunkCauses, EndCauses, ErrorCauses, SignalCauses, row-causes}
 use Rattle.ws_laws.proofs.EachCall.{each_call}
 use Rattle.ws_laws.proofs.TransformDoes.{TransformCauses}
 use Rattle.ws_laws.proofs.Walker.{IsHistory, performed-goes}
@@ -143,13 +146,13 @@ one-asked i j p s there =
     by true e = rw (e, there) refl
     by false e = rw e refl
 
-read-asks : (i : StreamId) (s : Slots) (o : Option Lock) → let b : Begun = by_default_reader calls.read calls.rejected s o in promises_of (asked i b.done) ≡ asked_with i b.reply o
+read-asks : (i : StreamId) (s : Slots) (o : Option Lock) → let b : Begun = by_default_reader lock_calls.read replying.rejected s o in promises_of (asked i b.done) ≡ asked_with i b.reply o
 read-asks i s None = none-asked i (unsupported s).done tt
-read-asks i s (Some (Reader None closed)) = none-asked i (calls.rejected s).done (tt, tt)
+read-asks i s (Some (Reader None closed)) = none-asked i (replying.rejected s).done (tt, tt)
 read-asks i s (Some (Reader (Some j) closed)) =
     let o : Option Lock = Some (Reader (Some j) closed) in
-    either (λ (b : Begun). promises_of (asked i b.done) ≡ asked_with i b.reply o) (has_source j s) (calls.read j s) (unsupported s)
-    (λ there. one-asked i j _ (calls.read j s).done.slots there)
+    either (λ (b : Begun). promises_of (asked i b.done) ≡ asked_with i b.reply o) (has_source j s) (lock_calls.read j s) (unsupported s)
+    (λ there. one-asked i j _ (lock_calls.read j s).done.slots there)
     (λ none. none-asked i (unsupported s).done tt ∙ either (λ (ps : List PromiseId). [] ≡ ps) (is_same i j) [] [] (λ e. refl) (λ e. refl))
 read-asks i s (Some (ByobReader stream closed)) = none-asked i (unsupported s).done tt
 read-asks i s (Some (Writer j)) = none-asked i (unsupported s).done tt
@@ -201,7 +204,7 @@ run-asks i (x ∷ xs) s =
     promises-append (step_reads i s x).asked (run_reads i xs (step s x)).asked ∙ (rw (a, b) refl)
 
 -- a call that reads by a reader which has a stream
-pub begins-read : (s : Slots) (l : LockId) (i : StreamId) (p : PromiseId) → lock_at l s ≡ Some (Reader (Some i) p) → has_source i s ≡ true → begin (ReadCall l) s ≡ calls.read i s
+pub begins-read : (s : Slots) (l : LockId) (i : StreamId) (p : PromiseId) → lock_at l s ≡ Some (Reader (Some i) p) → has_source i s ≡ true → begin (ReadCall l) s ≡ lock_calls.read i s
 unfolding begin
 begins-read s l i p e there = rw (e, there) refl
 

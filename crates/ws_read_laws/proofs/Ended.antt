@@ -6,7 +6,8 @@ use Rattle.ws_value.specs.declared.value.{Outcome.{Outcome}, Outcome.TheVariants
 use Rattle.ws_steps.specs.declared.{calls.Call.TheVariants.{Read}, effects.Effect.{Effect}, effects.Effect.TheVariants.{Readable as OnReadable, CloseSteps, ErrorSteps, Settle}}
 use Rattle.ws_steps.specs.declared.{locks.Lock.TheVariants.{Reader}, readable.ReadRequest.TheVariants.{Promise}, readable.ReadableOperation.TheVariants.{Read as ReadChunk}}
 use Rattle.ws_steps.specs.declared.readable.ReadableState.TheVariants.{Closed, Errored}
-use Rattle.ws_steps.specs.Calls.{Begun, begin, named, promising}
+use Rattle.ws_steps.specs.Begun.{Begun, promising}
+use Rattle.ws_steps.specs.Calls.{begin, named}
 use Rattle.ws_steps.specs.Effects.{type_error}
 use Rattle.ws_steps.specs.Laws.{IsAnswered, ReadsOfTheEnded}
 use Rattle.ws_steps.specs.Promises.{Entry, Table, next_id, fresh, ended, with_entry, outcome_at, is_pending, settle, answer, watch}

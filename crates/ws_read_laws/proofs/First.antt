@@ -28,12 +28,15 @@ use Rattle.ws_steps.specs.Promises.{Table, next_id, fresh, is_pending_at}
 use Rattle.ws_steps.specs.Slots.{Slots, Done, has_byte, on_readable, on_byte, source_at}
 use Rattle.ws_steps.specs.Turns.{row}
 use Rattle.ws_steps.specs.Jobs.{job_effects}
-use Rattle.ws_steps.specs.Calls as calls
-use Rattle.ws_steps.specs.Calls.{Begun, begin}
+use Rattle.ws_steps.specs.MakingCalls as making_calls
+use Rattle.ws_steps.specs.LockCalls as lock_calls
+use Rattle.ws_steps.specs.PipeCalls as pipe_calls
+use Rattle.ws_steps.specs.Begun.{Begun}
+use Rattle.ws_steps.specs.Calls.{begin}
 use Rattle.ws_laws.proofs.EachCall.{each_call}
 use Rattle.ws_laws.proofs.Lists.{Each, each-append}
 use Rattle.ws_laws.proofs.PipeDoes.{PipeCauses}
-use Rattle.ws_laws.proofs.Rows.{Causes, row-causes}
+use Rattle.ws_laws.proofs.Causes.{Causes, row-causes}
 use Rattle.ws_laws.proofs.Tables.{either}
 use Rattle.ws_laws.proofs.TeeDoes.{TeeCauses}
 use Rattle.ws_laws.proofs.TransformDoes.{TransformCauses}
@@ -113,23 +116,23 @@ row-first s e es t = none-first ((row e s).caused ++ es) (each-append IsNoInit (
 
 -- calls and jobs
 
-renewed-none : (t : Table) (kept : Bool) → Each IsNoInit (calls.reject_renewed t kept)
+renewed-none : (t : Table) (kept : Bool) → Each IsNoInit (lock_calls.reject_renewed t kept)
 renewed-none t kept = grind arith
 
-begins-none : (me : PipeId) (a b : PromiseId) (signal : Option SignalId) (reason : Option Plain) → Each IsNoInit (calls.pipe_begins me a b signal reason)
+begins-none : (me : PipeId) (a b : PromiseId) (signal : Option SignalId) (reason : Option Plain) → Each IsNoInit (pipe_calls.pipe_begins me a b signal reason)
 begins-none me a b signal (Some r) = (tt, tt)
 begins-none me a b None None = grind arith
 begins-none me a b (Some g) None = grind arith
 
-start-first : (q : PromiseId) (j : StreamId) (start : StartBy) → InitFirst (calls.start_transform q j start ∷ [])
+start-first : (q : PromiseId) (j : StreamId) (start : StartBy) → InitFirst (making_calls.start_transform q j start ∷ [])
 start-first q j Now = tt
 start-first q j Later = tt
 
-opened-first : (s : Slots) (i : StreamId) (side : Side) → InitFirst (calls.open_end side i s).done.caused
+opened-first : (s : Slots) (i : StreamId) (side : Side) → InitFirst (pipe_calls.open_end side i s).done.caused
 opened-first s i ReadableSide = tt
 opened-first s i WritableSide = tt
 
-sent-first : (s z : Slots) (i source dest : StreamId) (side : Side) → InitFirst (calls.sent_by i side s (calls.pipe_to source dest calls.no_prevent None z)).done.caused
+sent-first : (s z : Slots) (i source dest : StreamId) (side : Side) → InitFirst (pipe_calls.sent_by i side s (pipe_calls.pipe_to source dest pipe_calls.no_prevent None z)).done.caused
 sent-first s z i source dest ReadableSide = (tt, begins-none (record { 0 = length z.pipes }) (next_id z.promises) (next_id (fresh (fresh z.promises))) None None)
 sent-first s z i source dest WritableSide = (tt, begins-none (record { 0 = length z.pipes }) (next_id z.promises) (next_id (fresh (fresh z.promises))) None None)
 
@@ -142,7 +145,7 @@ call-first c s = each_call (λ (b : Begun). InitFirst b.done.caused) c s (record
   get_byob = λ i is e. tt;
   release_byob = λ l closed i e.
       let kept : Bool = readable.is_readable (source_at i s).state in
-      none-first _ (each-append IsNoInit (calls.reject_renewed s.promises kept) (Readable i ReleaseReader ∷ []) (renewed-none s.promises kept) (tt, tt));
+      none-first _ (each-append IsNoInit (lock_calls.reject_renewed s.promises kept) (Readable i ReleaseReader ∷ []) (renewed-none s.promises kept) (tt, tt));
   read_into = λ l i closed room element least e f. tt;
   enqueue_bytes = λ i b e is some can. tt;
   finish_bytes = λ i e is can. tt;
@@ -153,13 +156,13 @@ call-first c s = each_call (λ (b : Begun). InitFirst b.done.caused) c s (record
   get_writer = λ i e. tt;
   release_reader = λ l closed i e.
       let kept : Bool = readable.is_readable (source_at i s).state in
-      none-first _ (each-append IsNoInit (calls.reject_renewed s.promises kept) (Readable i ReleaseReader ∷ []) (renewed-none s.promises kept) (tt, tt));
+      none-first _ (each-append IsNoInit (lock_calls.reject_renewed s.promises kept) (Readable i ReleaseReader ∷ []) (renewed-none s.promises kept) (tt, tt));
   release_writer = λ l i w e f.
       let ready : Bool = is_pending_at w.ready s.promises in
-      let t : Table = calls.with_renewed s.promises ready in
+      let t : Table = lock_calls.with_renewed s.promises ready in
       let closed : Bool = is_pending_at w.closed t in
-      none-first _ (each-append IsNoInit (calls.reject_renewed s.promises ready) _ (renewed-none s.promises ready)
-      (each-append IsNoInit (calls.reject_renewed t closed) (Writable i ReleaseWriter ∷ []) (renewed-none t closed) (tt, tt)));
+      none-first _ (each-append IsNoInit (lock_calls.reject_renewed s.promises ready) _ (renewed-none s.promises ready)
+      (each-append IsNoInit (lock_calls.reject_renewed t closed) (Writable i ReleaseWriter ∷ []) (renewed-none t closed) (tt, tt)));
   cancel = λ reason i. tt;
   read = λ l i closed e f. tt;
   write = λ l v i e. tt;
@@ -175,11 +178,11 @@ call-first c s = each_call (λ (b : Begun). InitFirst b.done.caused) c s (record
   fail_readable = λ i reason. tt;
   fail_writable = λ i reason. tt;
   pipe = λ source dest prevent signal e f l m.
-      (tt, begins-none (record { 0 = length s.pipes }) (next_id s.promises) (next_id (fresh (fresh s.promises))) signal (calls.reason_of signal s));
+      (tt, begins-none (record { 0 = length s.pipes }) (next_id s.promises) (next_id (fresh (fresh s.promises))) signal (pipe_calls.reason_of signal s));
   make_signal = tt;
   open_end = λ side. opened-first s (record { 0 = length s.streams }) side;
-  send_readable = λ i there free. sent-first s (calls.add_port (record { 0 = length s.streams }) s WritableSide) (record { 0 = length s.streams }) i (record { 0 = length s.streams }) WritableSide;
-  send_writable = λ i there free. sent-first s (calls.add_port (record { 0 = length s.streams }) s ReadableSide) (record { 0 = length s.streams }) (record { 0 = length s.streams }) i ReadableSide;
+  send_readable = λ i there free. sent-first s (pipe_calls.add_port (record { 0 = length s.streams }) s WritableSide) (record { 0 = length s.streams }) i (record { 0 = length s.streams }) WritableSide;
+  send_writable = λ i there free. sent-first s (pipe_calls.add_port (record { 0 = length s.streams }) s ReadableSide) (record { 0 = length s.streams }) (record { 0 = length s.streams }) i ReadableSide;
   deliver = λ p m e is. tt;
   trigger = λ a reason. tt;
   settle = λ h answer q e. tt;

@@ -3,8 +3,11 @@ use Rattle.std.proofs.Common.{◌≡◌, ℕ, ◌+◌, ◌≤◌, Bool, true, fa
 use Rattle.ws_value.specs.declared.{ids.LockId.{LockId}, ids.PromiseId.{PromiseId}, ids.StreamId.{StreamId}}
 use Rattle.ws_steps.specs.declared.{calls.Call.{Call}, calls.Call.TheVariants.{Read as ReadCall}, calls.Reply.{Reply}, calls.Reply.TheVariants.{Promise as Named}}
 use Rattle.ws_steps.specs.declared.{locks.Lock.{Lock}, locks.Lock.TheVariants.{Reader, ByobReader, Writer, ReleasedWriter, Inner}, promises.Job.{Job}, promises.Job.TheVariants.{Reaction as ReactionJob, Follow, Settle, Micro as MicroJob}, promises.Reaction.TheVariants.{Adopt}, promises.Micro.{Micro}}
-use Rattle.ws_steps.specs.Calls.{Begun, begin, unsupported, by_default_reader, named}
-use Rattle.ws_steps.specs.Calls as calls
+use Rattle.ws_steps.specs.Begun.{Begun, unsupported}
+use Rattle.ws_steps.specs.LockCalls.{by_default_reader}
+use Rattle.ws_steps.specs.Calls.{begin, named}
+use Rattle.ws_steps.specs.Begun as replying
+use Rattle.ws_steps.specs.LockCalls as lock_calls
 use Rattle.ws_steps.specs.Histories.{is_same}
 use Rattle.ws_steps.specs.Jobs.{job_begun, begin_job}
 use Rattle.ws_steps.specs.Laws.{RiseFrom}
@@ -122,7 +125,7 @@ more c s = called-made (count s) c s (begin-made (count s) c s (self (count s)))
 
 -- the promise of a read is the next
 
-named-between : (l : LockId) (j : StreamId) (s : Slots) (there : Bool) → begin (ReadCall l) s ≡ (if there then calls.read j s else unsupported s) → Between (count s) (count (step s (Called (ReadCall l)))) (named_by (reply_to (ReadCall l) s))
+named-between : (l : LockId) (j : StreamId) (s : Slots) (there : Bool) → begin (ReadCall l) s ≡ (if there then lock_calls.read j s else unsupported s) → Between (count s) (count (step s (Called (ReadCall l)))) (named_by (reply_to (ReadCall l) s))
 named-between l j s false e =
     let none : named_by (reply_to (ReadCall l) s) ≡ [] = ap (λ (b : Begun). named_by b.reply) e in
     rw none (more (ReadCall l) s)
@@ -131,7 +134,7 @@ named-between l j s true e =
     let made : count (begin (ReadCall l) s).done.slots ≡ count s + 1 = ap (λ (b : Begun). count b.done.slots) e ∙ length-fresh s.promises in
     rw one (self (count s), called-made (count s + 1) (ReadCall l) s (omega arith))
 
-read-between : (i : StreamId) (l : LockId) (s : Slots) (o : Option Lock) → begin (ReadCall l) s ≡ by_default_reader calls.read calls.rejected s o → Between (count s) (count (step s (Called (ReadCall l)))) (asked_with i (reply_to (ReadCall l) s) o)
+read-between : (i : StreamId) (l : LockId) (s : Slots) (o : Option Lock) → begin (ReadCall l) s ≡ by_default_reader lock_calls.read replying.rejected s o → Between (count s) (count (step s (Called (ReadCall l)))) (asked_with i (reply_to (ReadCall l) s) o)
 read-between i l s None e = more (ReadCall l) s
 read-between i l s (Some (Reader None closed)) e = more (ReadCall l) s
 read-between i l s (Some (Reader (Some j) closed)) e =

@@ -11,7 +11,11 @@ use Rattle.ws_steps.specs.declared.pipes.{PipeOperation.{PipeOperation}, Prevent
 use Rattle.ws_steps.specs.declared.byte.ByteOperation.TheVariants.{InitializeByobReader}
 use Rattle.ws_steps.specs.Histories.{is_same}
 use Rattle.ws_steps.specs.Jobs.{job_effects}
-use Rattle.ws_steps.specs.Calls.{Begun, begin, renewed, with_renewed, reject_renewed, start_transform, make_tee, pipe_to, pipe_begins, reason_of, open_end, start_end, add_port, end_of, no_prevent, send_readable, send_writable}
+use Rattle.ws_steps.specs.Begun.{Begun}
+use Rattle.ws_steps.specs.MakingCalls.{start_transform, make_tee}
+use Rattle.ws_steps.specs.LockCalls.{renewed, with_renewed, reject_renewed}
+use Rattle.ws_steps.specs.PipeCalls.{pipe_to, pipe_begins, reason_of, open_end, start_end, add_port, end_of, no_prevent, send_readable, send_writable}
+use Rattle.ws_steps.specs.Calls.{begin}
 use Rattle.ws_steps.specs.Pipes as pipe
 use Rattle.ws_steps.specs.Pipes.{abort_all, trigger_unless}
 use Rattle.ws_steps.specs.Promises.{Table, next_id, fresh, is_pending_at}

@@ -31,8 +31,10 @@ use Rattle.ws_steps.specs.declared.tee.Half.TheVariants.{First, Second}
 use Rattle.ws_steps.specs.Transform.{Acts}
 use Rattle.ws_steps.specs.Slots.{Slots, Stream, ReadableStream, ByteStream, WritableStream, Done, has_byte, byte_at, causes, empty, as_readable, as_transform, has_readable, readable_at, transform_at}
 use Rattle.ws_steps.specs.Jobs.{job_effects, job_begun, begin_job}
-use Rattle.ws_steps.specs.Calls.{Begun, begin, unsupported}
-use Rattle.ws_steps.specs.Calls as calls
+use Rattle.ws_steps.specs.Begun.{Begun, unsupported}
+use Rattle.ws_steps.specs.Calls.{begin}
+use Rattle.ws_steps.specs.Begun as replying
+use Rattle.ws_steps.specs.ControllerCalls as controller_calls
 use Rattle.ws_steps.specs.Run.{Entry, Called, Worked, Heard, step, run}
 use Rattle.ws_steps.specs.Histories.{is_same}
 use Rattle.ws_steps.specs.ReadableHistory.{step_flow, run_flow, accepted_by, accepted_in_step, accepted}
@@ -66,16 +68,16 @@ module _ (i : StreamId) where
   first_quiet E none _ f = tt
 
   by-owner : (j : StreamId) (v : Value) (s : Slots) (owner : Owner) → has_readable j s ≡ true → (readable_at j s).owner ≡ owner → Halved s → Apart s
-      → enters (calls.enqueue_by v j s owner).done ≡ accepted_by i (EnqueueCall j v) (calls.enqueue_by v j s owner).reply
+      → enters (controller_calls.enqueue_by v j s owner).done ≡ accepted_by i (EnqueueCall j v) (controller_calls.enqueue_by v j s owner).reply
   by-owner j v s Host there is halved apart =
       either (λ (b : Begun). enters b.done ≡ accepted_by i (EnqueueCall j v) b.reply) (readable.can_close_or_enqueue (readable_at j s))
-      (calls.does (Readable j (Enqueue v) ∷ []) s) (calls.throws_type_error s) (λ can. entering.enqueued i true j v s [] tt apart can) (λ cannot. entering.none-of i true s)
+      (replying.does (Readable j (Enqueue v) ∷ []) s) (replying.throws_type_error s) (λ can. entering.enqueued i true j v s [] tt apart can) (λ cannot. entering.none-of i true s)
   by-owner j v s (HalfOf t) there is halved apart =
       let at : slice_get (stream_shapes s) j.0 ≡ Some (ReadableOf (HalfOf t)) =
       map-there stream_shape s.streams j.0 (ReadableStream (readable_at j s)) (readable_there (slice_get s.streams j.0) there) ∙ ap (λ o. Some (ReadableOf o)) is in
       let half = halved.readable j t at in
       either (λ (b : Begun). enters b.done ≡ accepted_by i (EnqueueCall j v) b.reply) (readable.can_close_or_enqueue (readable_at j s))
-      (calls.does (Transform t (names.Enqueue v) ∷ []) s) (calls.throws_type_error s)
+      (replying.does (Transform t (names.Enqueue v) ∷ []) s) (replying.throws_type_error s)
       (λ can. entering.enqueued-half i true t j v s (slice_get s.transforms t.0) refl half.0 half.1.0 half.1.1 apart can) (λ cannot. entering.none-of i true s)
   by-owner j v s (BranchOf t half) there is halved apart = entering.none-of i true s
   by-owner j v s (EndOf c) there is halved apart = entering.none-of i true s
@@ -93,24 +95,24 @@ module _ (i : StreamId) where
   is-other j s true e is kind = let at : i ≡ j = same_id i j (sym e) in let wrong : has_byte j s ≡ false = rw (← at) kind in cc
   is-other j s false e is kind = refl
 
-  bytes-enter : (j : StreamId) (v : Value) (s : Slots) → Apart s → enters (calls.enqueue_bytes j s v).done ≡ []
+  bytes-enter : (j : StreamId) (v : Value) (s : Slots) → Apart s → enters (controller_calls.enqueue_bytes j s v).done ≡ []
   bytes-enter j (PlainValue v) s apart = entering.none-of i true s
   bytes-enter j (Bytes b) s apart =
-      either (λ (c : Begun). enters c.done ≡ []) (not (is_empty b) && byte.can_take (byte_at j s)) (calls.does (Byte j (EnqueueBytes b) ∷ []) s) (calls.throws_type_error s)
+      either (λ (c : Begun). enters c.done ≡ []) (not (is_empty b) && byte.can_take (byte_at j s)) (replying.does (Byte j (EnqueueBytes b) ∷ []) s) (replying.throws_type_error s)
       (λ can. bytes-quiet j b s apart) (λ cannot. entering.none-of i true s)
 
   bytes-accepted : (j : StreamId) (v : Value) (s : Slots) → has_byte j s ≡ true → has_byte i s ≡ false → Apart s
-      → enters (calls.enqueue_bytes j s v).done ≡ accepted_by i (EnqueueCall j v) (calls.enqueue_bytes j s v).reply
+      → enters (controller_calls.enqueue_bytes j s v).done ≡ accepted_by i (EnqueueCall j v) (controller_calls.enqueue_bytes j s v).reply
   bytes-accepted j v s is kind apart =
-      let none = other-accepted j v (calls.enqueue_bytes j s v).reply (is_same i j) refl (is-other j s (is_same i j) refl is kind) in
+      let none = other-accepted j v (controller_calls.enqueue_bytes j s v).reply (is_same i j) refl (is-other j s (is_same i j) refl is kind) in
       rw none (bytes-enter j v s apart)
 
   call_accepted : (c : Call) (s : Slots) → has_byte i s ≡ false → Halved s → Apart s → Apart (begin c s).done.slots → enters (begin c s).done ≡ accepted_by i c (begin c s).reply
   unfolding begin
   call_accepted (EnqueueCall j v) s kind halved apart later =
-      either (λ (b : Begun). enters b.done ≡ accepted_by i (EnqueueCall j v) b.reply) (has_byte j s) (calls.enqueue_bytes j s v) (calls.for_readable j (calls.enqueue v j) s)
+      either (λ (b : Begun). enters b.done ≡ accepted_by i (EnqueueCall j v) b.reply) (has_byte j s) (controller_calls.enqueue_bytes j s v) (replying.for_readable j (controller_calls.enqueue v j) s)
       (λ is. bytes-accepted j v s is kind apart)
-      (λ isnt. either (λ (b : Begun). enters b.done ≡ accepted_by i (EnqueueCall j v) b.reply) (has_readable j s) (calls.enqueue v j s) (unsupported s)
+      (λ isnt. either (λ (b : Begun). enters b.done ≡ accepted_by i (EnqueueCall j v) b.reply) (has_readable j s) (controller_calls.enqueue v j s) (unsupported s)
       (λ there. by-owner j v s (readable_at j s).owner there refl halved apart) (λ absent. entering.none-of i true s))
   call_accepted c s kind halved apart later =
       entering.none_enters i true (begin c s).done (each-map (IsFirst (Enqueues c)) Quiet (first_quiet (Enqueues c) (λ j v e. cc)) (begin c s).done.caused (begin-first c s)) later

@@ -1,7 +1,8 @@
 -- A readable stream that has ended stays so, and accepts nothing, whatever a step performs.
 use Rattle.ws_steps.specs.declared.port.Side.{Side}
 use Rattle.ws_steps.specs.declared.port.Side.TheVariants.{Readable as ReadableSide, Writable as WritableSide}
-use Rattle.ws_steps.specs.Calls as calls
+use Rattle.ws_steps.specs.MakingCalls as making_calls
+use Rattle.ws_steps.specs.PipeCalls as pipe_calls
 use Rattle.ws_laws.proofs.Halves.{Halved}
 use Rattle.ws_laws.proofs.Shapes.{StreamShape, stream_shape, stream_shapes, transform_shapes, tee_shapes}
 use Rattle.ws_laws.proofs.Tables.{eq_numbers, unequal_numbers}
@@ -26,13 +27,15 @@ use Rattle.ws_steps.specs.Readable.{Acts, is_readable, call_pull_if_needed, acce
 use Rattle.ws_steps.specs.Slots.{Slots, Stream, Done, has_readable, has_byte, is_readable_stream, is_byte_stream, readable_at, as_readable, on_readable, on_byte}
 use Rattle.ws_steps.specs.Turns.{row, moments}
 use Rattle.ws_steps.specs.Jobs.{job_begun, begin_job}
-use Rattle.ws_steps.specs.Calls.{Begun, begin}
+use Rattle.ws_steps.specs.Begun.{Begun}
+use Rattle.ws_steps.specs.Calls.{begin}
 use Rattle.ws_steps.specs.Run.{Entry, Called, Worked, Heard}
 use Rattle.ws_steps.specs.Histories.{is_same, along}
 use Rattle.ws_steps.specs.ReadableHistory.{Flow, no_flow, flow_then, operation_flow, effect_flow, step_flow}
 use Rattle.ws_laws.proofs.EachCall.{each_call}
 use Rattle.ws_laws.proofs.Lists.{Each, each-append}
-use Rattle.ws_laws.proofs.Rows.{row-causes, row-streams}
+use Rattle.ws_laws.proofs.Apart.{row-streams}
+use Rattle.ws_laws.proofs.Causes.{row-causes}
 use Rattle.ws_laws.proofs.Tables.{either, same_id, readable_acts, on_readable-same, on_source-other, on_byte-readable, on_writable-readable}
 use Rattle.ws_laws.proofs.Walker.{performed-goes}
 use Rattle.ws_readable_laws.proofs.Runs.{is_history, nothing_flows}
@@ -208,7 +211,7 @@ module _ (i : StreamId) where
   abbrev Begins : Slots → Begun → Type 0
   Begins s b = (b.done.slots.streams ≡ s.streams) ⊎ (Each IsIdle b.done.caused ⊎ (IsOver i b.done.slots ⊎ IsNew b))
 
-  made-over : (y : Stream) (s : Slots) → nat_eq i.0 (length s.streams) ≡ false → IsOver i s → IsOver i (calls.add_stream y s)
+  made-over : (y : Stream) (s : Slots) → nat_eq i.0 (length s.streams) ≡ false → IsOver i s → IsOver i (making_calls.add_stream y s)
   made-over y s other n = rw (get-other s.streams y i.0 (unequal_numbers i.0 (length s.streams) other)) n
 
   no-old : (s : Slots) (j : StreamId) (x : StreamShape) (same : Bool) → same ≡ is_same i j → nat_eq i.0 (length s.streams) ≡ true → slice_get (stream_shapes s) j.0 ≡ Some x → same ≡ false
@@ -227,21 +230,21 @@ module _ (i : StreamId) where
   })
 
   abbrev Sent : Slots → Side → StreamId → StreamId → Begun
-  Sent s side source dest = let me : StreamId = record { 0 = length s.streams } in calls.sent_by me side s (calls.pipe_to source dest calls.no_prevent None (calls.add_port me s side))
+  Sent s side source dest = let me : StreamId = record { 0 = length s.streams } in pipe_calls.sent_by me side s (pipe_calls.pipe_to source dest pipe_calls.no_prevent None (pipe_calls.add_port me s side))
 
   sent-new : (s : Slots) (side : Side) (source dest : StreamId) → Halved s → nat_eq i.0 (length s.streams) ≡ true → IsNew (Sent s side source dest)
   sent-new s ReadableSide source dest halved e = ((tt, (tt, (tt, (tt, (tt, (tt, (tt, tt))))))), new-apart s (Sent s ReadableSide source dest).done.slots refl refl e halved)
   sent-new s WritableSide source dest halved e = ((tt, (tt, (tt, (tt, (tt, (tt, (tt, tt))))))), new-apart s (Sent s WritableSide source dest).done.slots refl refl e halved)
 
   sent-over : (s : Slots) (side : Side) (source dest : StreamId) → nat_eq i.0 (length s.streams) ≡ false → IsOver i s → IsOver i (Sent s side source dest).done.slots
-  sent-over s ReadableSide source dest e n = made-over (calls.end_of (record { 0 = length s.ports }) ReadableSide) s e n
-  sent-over s WritableSide source dest e n = made-over (calls.end_of (record { 0 = length s.ports }) WritableSide) s e n
+  sent-over s ReadableSide source dest e n = made-over (pipe_calls.end_of (record { 0 = length s.ports }) ReadableSide) s e n
+  sent-over s WritableSide source dest e n = made-over (pipe_calls.end_of (record { 0 = length s.ports }) WritableSide) s e n
 
   sent-begins : (s : Slots) (side : Side) (source dest : StreamId) (new : Bool) → new ≡ nat_eq i.0 (length s.streams) → Halved s → IsOver i s → Begins s (Sent s side source dest)
   sent-begins s side source dest true e halved n = inr (inr (inr (sent-new s side source dest halved (sym e))))
   sent-begins s side source dest false e halved n = inr (inr (inl (sent-over s side source dest (sym e) n)))
 
-  opened-idle : (s : Slots) (side : Side) → let me : StreamId = record { 0 = length s.streams } in Each IsIdle (calls.open_end side me s).done.caused
+  opened-idle : (s : Slots) (side : Side) → let me : StreamId = record { 0 = length s.streams } in Each IsIdle (pipe_calls.open_end side me s).done.caused
   opened-idle s ReadableSide = (tt, tt)
   opened-idle s WritableSide = (tt, tt)
 

@@ -43,7 +43,8 @@ use Rattle.ws_steps.specs.ReadableHistory.{Flow, no_flow, flow_then, operation_f
 use Rattle.ws_room_laws.proofs.Turns.{moments_next, moments_none}
 use Rattle.ws_laws.proofs.Tables.{either}
 use Rattle.ws_laws.proofs.Lists.{Each, each-append, each-map}
-use Rattle.ws_laws.proofs.Rows.{Causes, row-causes, row-streams}
+use Rattle.ws_laws.proofs.Apart.{row-streams}
+use Rattle.ws_laws.proofs.Causes.{Causes, row-causes}
 use Rattle.ws_laws.proofs.PipeDoes.{PipeCauses}
 use Rattle.ws_laws.proofs.Shapes.{TransformShape, transform_shape, transform_shapes, map-there, row-transform_shapes, TeeShape, tee_shape, tee_shapes, row-tee_shapes}
 use Rattle.ws_laws.proofs.Walker.{performed-goes}

@@ -11,7 +11,10 @@ use Rattle.ws_steps.specs.declared.locks.Lock.{Lock}
 use Rattle.ws_steps.specs.declared.locks.Lock.TheVariants.{ByobReader, Reader, Writer as WriterLock, ReleasedWriter, Inner}
 use Rattle.ws_steps.specs.declared.transform.Kind.{Kind}
 use Rattle.ws_steps.specs.declared.writable.Writer.{Writer}
-use Rattle.ws_steps.specs.Calls.{Begun, begin, rejected, cancel, unlocked_readable, by_reader, terminate_by, fail_readable_by, fail_writable_by, of_writer, release, release_writer}
+use Rattle.ws_steps.specs.Begun.{Begun, rejected, unlocked_readable}
+use Rattle.ws_steps.specs.LockCalls.{cancel, by_reader, of_writer, release, release_writer}
+use Rattle.ws_steps.specs.ControllerCalls.{terminate_by, fail_readable_by, fail_writable_by}
+use Rattle.ws_steps.specs.Calls.{begin}
 use Rattle.ws_steps.specs.Effects.{type_error}
 use Rattle.ws_steps.specs.Promises.{next_id}
 use Rattle.ws_steps.specs.ReadableLooks as readable_looks

@@ -30,8 +30,12 @@ use Rattle.ws_steps.specs.declared.transform.Kind.{Kind}
 use Rattle.ws_steps.specs.declared.transform.TransformId.{TransformId}
 use Rattle.ws_steps.specs.declared.transform.TransformOperation.TheVariants.{Error as ErrorTransform, Terminate}
 use Rattle.ws_steps.specs.declared.writable.WritableOperation.TheVariants.{Abort, ErrorIfNeeded, ReleaseWriter, Write, Close}
-use Rattle.ws_steps.specs.Calls.{Begun, begin, promising, with_renewed, reject_renewed, pipe_begins, adding}
-use Rattle.ws_steps.specs.Calls as calls
+use Rattle.ws_steps.specs.Begun.{Begun, promising}
+use Rattle.ws_steps.specs.LockCalls.{with_renewed, reject_renewed}
+use Rattle.ws_steps.specs.PipeCalls.{pipe_begins, adding}
+use Rattle.ws_steps.specs.Calls.{begin}
+use Rattle.ws_steps.specs.MakingCalls as making_calls
+use Rattle.ws_steps.specs.PipeCalls as pipe_calls
 use Rattle.ws_steps.specs.Effects.{type_error}
 use Rattle.ws_steps.specs.Pipes as pipe
 use Rattle.ws_steps.specs.Promises.{Table, fresh, is_pending_at}
@@ -228,7 +232,7 @@ module _ (bad : Badness) (me : PipeId) (own : Option ℕ) (s : Slots) (known : K
   begins-good k p x y signal (Some r) h = omega (arith, h)
   begins-good k p x y signal None h = let a = adds k p signal in grind (arith, a, effects-append)
 
-  triggered : (k : Class) (signal : Option SignalId) → in_slots k s ≡ 0 → of_reason k (calls.reason_of signal s) ≡ 0
+  triggered : (k : Class) (signal : Option SignalId) → in_slots k s ≡ 0 → of_reason k (pipe_calls.reason_of signal s) ≡ 0
   triggered k None h = refl
   triggered k (Some a) h = by (slice_get s.signals a.0) (signal-there k s.signals a.0 (omega (arith, h)))
     where
@@ -245,7 +249,7 @@ module _ (bad : Badness) (me : PipeId) (own : Option ℕ) (s : Slots) (known : K
   pipe_own f tees false n e = soft_one f tees n e
 
   abbrev piped : StreamId → StreamId → Prevent → Option SignalId → Begun
-  piped source dest prevent signal = calls.pipe_to source dest prevent signal s
+  piped source dest prevent signal = pipe_calls.pipe_to source dest prevent signal s
 
   pipe-count : (source dest : StreamId) (prevent : Prevent) (signal : Option SignalId) → count (piped source dest prevent signal).done.slots.promises ≡ count s.promises + 4
   pipe-count source dest prevent signal =
@@ -272,7 +276,7 @@ module _ (bad : Badness) (me : PipeId) (own : Option ℕ) (s : Slots) (known : K
       let o = pipe_own f tees (nat_eq (length s.pipes) me.0) (count (fresh (fresh (fresh t)))) (news (count (fresh (fresh (fresh t)))) (omega (arith, c0, c1, c2)) (omega (arith, c3)) ∙ own_one (count (fresh (fresh (fresh t)))) (omega (arith, c0, c1, c2))) in
       let x : pipe.Slots = pipe.set_up source dest prevent signal (record { 0 = count (fresh (fresh (fresh t))) }) in
       let p = pipes-append k 0 s.pipes x (length s.pipes) (omega arith) (omega (arith, g)) (omega (arith, o)) in
-      let e = begins-good k (record { 0 = length s.pipes }) (record { 0 = count t }) (record { 0 = count (fresh (fresh t)) }) signal (calls.reason_of signal s) (triggered k signal (omega (arith, g))) in
+      let e = begins-good k (record { 0 = length s.pipes }) (record { 0 = count t }) (record { 0 = count (fresh (fresh t)) }) signal (pipe_calls.reason_of signal s) (triggered k signal (omega (arith, g))) in
       let r = fresh-keeps k (fresh (fresh (fresh t))) (fresh-keeps k (fresh (fresh t)) (fresh-keeps k (fresh t) (fresh-keeps k t (omega (arith, g))))) in
       omega (arith, g, s0, s1, s2, p, e, r)
     where
@@ -307,17 +311,17 @@ module _ (bad : Badness) (me : PipeId) (own : Option ℕ) (s : Slots) (known : K
   new_half : (f tees : ℕ → Bool) (kind : Kind) (i j : StreamId) (change : PromiseId) → of_kind bad.of kind ≡ 0 → loud (class bad me f tees) change.0 ≡ 0 → in_transform (class bad me f tees) (transform.set_up kind i j change) ≡ 0
   new_half f tees kind i j change e h = omega (arith, e, h)
 
-  starts : (f tees : ℕ → Bool) (p : PromiseId) (j : StreamId) (start : StartBy) → in_effects (class bad me f tees) (calls.start_transform p j start ∷ []) ≡ 0
+  starts : (f tees : ℕ → Bool) (p : PromiseId) (j : StreamId) (start : StartBy) → in_effects (class bad me f tees) (making_calls.start_transform p j start ∷ []) ≡ 0
   starts f tees p j start = grind arith
 
-  transform-known : (kind : Kind) (a b : ℕ) (start : StartBy) (i j : StreamId) → of_kind bad.of kind ≡ 0 → Known bad me own (calls.make_transform kind a b start i j s).done.slots (calls.make_transform kind a b start i j s).done.caused
+  transform-known : (kind : Kind) (a b : ℕ) (start : StartBy) (i j : StreamId) → of_kind bad.of kind ≡ 0 → Known bad me own (making_calls.make_transform kind a b start i j s).done.slots (making_calls.make_transform kind a b start i j s).done.caused
   transform-known kind a b start i j fair =
       let t : Table = s.promises in
       let c0 = fresh-count t in
       let c1 = fresh-count (fresh t) in
       let c2 = fresh-count (fresh (fresh t)) in
       let c3 = fresh-count (fresh (fresh (fresh t))) in
-      known-next bad me own s (calls.make_transform kind a b start i j s).done.slots [] (calls.make_transform kind a b start i j s).done.caused (λ i. true) known refl (omega (arith, c0, c1, c2, c3))
+      known-next bad me own s (making_calls.make_transform kind a b start i j s).done.slots [] (making_calls.make_transform kind a b start i j s).done.caused (λ i. true) known refl (omega (arith, c0, c1, c2, c3))
       (λ f tees news g.
       let k : Class = class bad me f tees in
       let l0 = loud_one f tees (count t) (news (count t) (omega arith) (omega (arith, c0, c1, c2, c3))) in
@@ -337,7 +341,7 @@ module _ (bad : Badness) (me : PipeId) (own : Option ℕ) (s : Slots) (known : K
       omega (arith, g, l0, l1, l2, l3, s0, s1, h, z, e, p))
 
   -- a tee: its promises hand on, and its reader isn't let go of
-  tee-known : (source i j : StreamId) → Paired bad.of (calls.make_tee source i j s).done.slots → Known bad me own (calls.make_tee source i j s).done.slots (calls.make_tee source i j s).done.caused
+  tee-known : (source i j : StreamId) → Paired bad.of (making_calls.make_tee source i j s).done.slots → Known bad me own (making_calls.make_tee source i j s).done.slots (making_calls.make_tee source i j s).done.caused
   tee-known source i j paired =
       let t : Table = s.promises in
       let c0 = fresh-count t in
@@ -345,7 +349,7 @@ module _ (bad : Badness) (me : PipeId) (own : Option ℕ) (s : Slots) (known : K
       let me_ : TeeId = record { 0 = length s.tees } in
       let x : tee.Slots = tee.set_up source i j (record { 0 = count (fresh t) }) in
       let pair : bad.of (Pair me_) ≡ 0 = paired me_ (tee_shape x) (tee_last s.tees x) in
-      known-turn bad me own s (calls.make_tee source i j s).done.slots [] (calls.make_tee source i j s).done.caused (λ i. true) known (λ n e. teed-more n s.tees x e) (omega (arith, c0, c1))
+      known-turn bad me own s (making_calls.make_tee source i j s).done.slots [] (making_calls.make_tee source i j s).done.caused (λ i. true) known (λ n e. teed-more n s.tees x e) (omega (arith, c0, c1))
       (λ f tees reads news g exact.
       let k : Class = class bad me f tees in
       let l0 = loud_one f tees (count t) (news (count t) (omega arith) (omega (arith, c0, c1))) in
@@ -359,35 +363,35 @@ module _ (bad : Badness) (me : PipeId) (own : Option ℕ) (s : Slots) (known : K
       let p = fresh-keeps k (fresh t) (fresh-keeps k t (omega (arith, g))) in
       omega (arith, g, l0, l1, reader, s1, z, p))
     where
-      read_by : (b : Bool) (n : ℕ) → (b ≡ false → is_teed source (calls.make_tee source i j s).done.slots ≡ false) → (if b then 0 else n) ≡ 0
+      read_by : (b : Bool) (n : ℕ) → (b ≡ false → is_teed source (making_calls.make_tee source i j s).done.slots ≡ false) → (if b then 0 else n) ≡ 0
       read_by true n reads = refl
       read_by false n reads = let m = teed-last source s.tees (tee.set_up source i j (record { 0 = count (fresh s.promises) })) refl in let l = reads refl in cc
 
   -- a port: its backpressure promise hands on
 
-  started : (z : Slots) (es : List Effect) (j : StreamId) (side : Side) → Known bad me own z es → Known bad me own z (calls.start_end j side ∷ es)
+  started : (z : Slots) (es : List Effect) (j : StreamId) (side : Side) → Known bad me own z es → Known bad me own z (pipe_calls.start_end j side ∷ es)
   started z es j side k = record { hands = k.hands; mine = k.mine; good = λ f g same reads. with_start (class bad me f g) side (k.good f g same reads) }
     where
-      with_start : (k : Class) (side : Side) → AllGood k z es → AllGood k z (calls.start_end j side ∷ es)
+      with_start : (k : Class) (side : Side) → AllGood k z es → AllGood k z (pipe_calls.start_end j side ∷ es)
       with_start k ReadableSide h = omega (arith, h)
       with_start k WritableSide h = omega (arith, h)
 
-  port-known : (j : StreamId) (side : Side) → bad.of cross.data_clone ≡ 0 → Known bad me own (calls.add_port j s side) []
+  port-known : (j : StreamId) (side : Side) → bad.of cross.data_clone ≡ 0 → Known bad me own (pipe_calls.add_port j s side) []
   port-known j ReadableSide fair =
-      plain-known (calls.add_port j s ReadableSide) [] refl refl
+      plain-known (pipe_calls.add_port j s ReadableSide) [] refl refl
       (λ f tees g.
       let k : Class = class bad me f tees in
-      let a = streams-append k 0 s.streams (calls.end_of (record { 0 = length s.ports }) ReadableSide) (length s.streams) (omega arith) (omega (arith, g)) refl in
+      let a = streams-append k 0 s.streams (pipe_calls.end_of (record { 0 = length s.ports }) ReadableSide) (length s.streams) (omega arith) (omega (arith, g)) refl in
       let b = ports-append k s.ports (cross.set_up ReadableSide j None) in
       omega (arith, g, a, b, fair))
   port-known j WritableSide fair =
       let t : Table = s.promises in
       let c = fresh-count t in
-      known-next bad me own s (calls.add_port j s WritableSide) [] [] (λ i. true) known refl (omega (arith, c))
+      known-next bad me own s (pipe_calls.add_port j s WritableSide) [] [] (λ i. true) known refl (omega (arith, c))
       (λ f tees news g.
       let k : Class = class bad me f tees in
       let l = loud_one f tees (count t) (news (count t) (omega arith) (omega (arith, c))) in
-      let a = streams-append k 0 s.streams (calls.end_of (record { 0 = length s.ports }) WritableSide) (length s.streams) (omega arith) (omega (arith, g)) refl in
+      let a = streams-append k 0 s.streams (pipe_calls.end_of (record { 0 = length s.ports }) WritableSide) (length s.streams) (omega arith) (omega (arith, g)) refl in
       let b = ports-append k s.ports (cross.set_up WritableSide j (Some (record { 0 = count t }))) in
       let p = fresh-keeps k t (omega (arith, g)) in
       omega (arith, g, a, b, l, p, fair))
@@ -400,9 +404,9 @@ module _ (bad : Badness) (me : PipeId) (own : Option ℕ) (s : Slots) (known : K
       port_last [] x = refl
       port_last (y ∷ xs) x = port_last xs x
 
-  side-fair : (j : StreamId) (side : Side) → Ported bad.of (calls.add_port j s side) → bad.of cross.data_clone ≡ 0
-  side-fair j ReadableSide h = last-fair (calls.add_port j s ReadableSide) (cross.set_up ReadableSide j None) refl h
-  side-fair j WritableSide h = last-fair (calls.add_port j s WritableSide) (cross.set_up WritableSide j (Some (record { 0 = count s.promises }))) refl h
+  side-fair : (j : StreamId) (side : Side) → Ported bad.of (pipe_calls.add_port j s side) → bad.of cross.data_clone ≡ 0
+  side-fair j ReadableSide h = last-fair (pipe_calls.add_port j s ReadableSide) (cross.set_up ReadableSide j None) refl h
+  side-fair j WritableSide h = last-fair (pipe_calls.add_port j s WritableSide) (cross.set_up WritableSide j (Some (record { 0 = count s.promises }))) refl h
 
   message-good : (f tees : ℕ → Bool) (m : Message) → bad_message bad m ≡ 0 → of_message (class bad me f tees) m ≡ 0
   message-good f tees PullMessage h = refl
@@ -411,8 +415,8 @@ module _ (bad : Badness) (me : PipeId) (own : Option ℕ) (s : Slots) (known : K
   message-good f tees (ErrorMessage r) h = h
 
   -- where what makes a pipe behind a port is known
-  known-with : ((j : StreamId) (side : Side) (source dest : StreamId) → Ported bad.of (calls.add_port j s side)
-      → Known bad me own (calls.pipe_to source dest calls.no_prevent None (calls.add_port j s side)).done.slots (calls.pipe_to source dest calls.no_prevent None (calls.add_port j s side)).done.caused)
+  known-with : ((j : StreamId) (side : Side) (source dest : StreamId) → Ported bad.of (pipe_calls.add_port j s side)
+      → Known bad me own (pipe_calls.pipe_to source dest pipe_calls.no_prevent None (pipe_calls.add_port j s side)).done.slots (pipe_calls.pipe_to source dest pipe_calls.no_prevent None (pipe_calls.add_port j s side)).done.caused)
       → (c : Call) → Begins (begin c s)
   known-with piped_behind c =
       each_call Begins c s (record {
@@ -467,7 +471,7 @@ module _ (bad : Badness) (me : PipeId) (own : Option ℕ) (s : Slots) (known : K
         fail_writable = λ i reason b n pairs. plain-known s _ refl refl (λ f tees g. omega (arith, g, b));
         pipe = λ source dest prevent signal e f l m b n pairs. pipe-known source dest prevent signal;
         make_signal = λ b n pairs. plain-known _ _ refl refl (λ f tees g. let a = signals-append (class bad me f tees) s.signals in omega (arith, g, a));
-        open_end = λ side b n pairs. let j : StreamId = record { 0 = length s.streams } in started (calls.add_port j s side) [] j side (port-known j side (side-fair j side pairs.1));
+        open_end = λ side b n pairs. let j : StreamId = record { 0 = length s.streams } in started (pipe_calls.add_port j s side) [] j side (port-known j side (side-fair j side pairs.1));
         send_readable = λ i there free b n pairs. let j : StreamId = record { 0 = length s.streams } in started _ _ j WritableSide (piped_behind j WritableSide i j pairs.1);
         send_writable = λ i there free b n pairs. let j : StreamId = record { 0 = length s.streams } in started _ _ j ReadableSide (piped_behind j ReadableSide j i pairs.1);
         deliver = λ p m e is b n pairs. plain-known s _ refl refl (λ f tees g. let d = message-good f tees m (omega (arith, b)) in omega (arith, g, d));
@@ -478,4 +482,4 @@ module _ (bad : Badness) (me : PipeId) (own : Option ℕ) (s : Slots) (known : K
 pub call-known : (bad : Badness) (me : PipeId) (own : Option ℕ) (s : Slots) (known : Known bad me own s []) (c : Call) → Begins bad me own s known (begin c s)
 call-known bad me own s known c =
     known-with bad me own s known
-    (λ j side source dest fair. let z : Slots = calls.add_port j s side in pipe-known bad me own z (port-known bad me own s known j side (side-fair bad me own s known j side fair)) source dest calls.no_prevent None) c
+    (λ j side source dest fair. let z : Slots = pipe_calls.add_port j s side in pipe-known bad me own z (port-known bad me own s known j side (side-fair bad me own s known j side fair)) source dest pipe_calls.no_prevent None) c

@@ -10,7 +10,8 @@ use Rattle.ws_steps.specs.declared.locks.Lock.{Lock}
 use Rattle.ws_steps.specs.declared.locks.Lock.TheVariants.{Reader, ByobReader}
 use Rattle.ws_steps.specs.declared.transform.Kind.{Kind}
 use Rattle.ws_steps.specs.declared.transform.Kind.TheVariants.{Identity}
-use Rattle.ws_steps.specs.Calls.{begin, is_view}
+use Rattle.ws_steps.specs.LockCalls.{is_view}
+use Rattle.ws_steps.specs.Calls.{begin}
 use Rattle.ws_steps.specs.Effects.{type_error}
 use Rattle.ws_steps.specs.ReadableLooks as readable_looks
 use Rattle.ws_steps.specs.Run.{Entry, Called, Worked, Heard, step, run}

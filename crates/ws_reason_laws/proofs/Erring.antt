@@ -29,8 +29,11 @@ use Rattle.ws_steps.specs.declared.port.Side.TheVariants.{Readable as ReadableSi
 use Rattle.ws_steps.specs.declared.transform.TransformId.{TransformId}
 use Rattle.ws_steps.specs.declared.transform.TransformOperation.{TransformOperation}
 use Rattle.ws_steps.specs.Bytes as byte
-use Rattle.ws_steps.specs.Calls as calls
-use Rattle.ws_steps.specs.Calls.{Begun, begin}
+use Rattle.ws_steps.specs.Begun as replying
+use Rattle.ws_steps.specs.LockCalls as lock_calls
+use Rattle.ws_steps.specs.ControllerCalls as controller_calls
+use Rattle.ws_steps.specs.Begun.{Begun}
+use Rattle.ws_steps.specs.Calls.{begin}
 use Rattle.ws_steps.specs.Effects.{type_error}
 use Rattle.ws_steps.specs.Jobs.{job_effects}
 use Rattle.ws_steps.specs.Operations.{transform_operation, tee_operation, port_operation}
@@ -45,7 +48,7 @@ use Rattle.ws_laws.proofs.Lists.{Each, each-append, each-map}
 use Rattle.ws_laws.proofs.Ended.{Ended, port_shape, port_shapes, end_shape}
 use Rattle.ws_laws.proofs.PipeDoes.{PipeCauses}
 use Rattle.ws_laws.proofs.PortDoes.{PortCauses, port-causes}
-use Rattle.ws_laws.proofs.Rows.{ChunkCauses, EndCauses, ErrorCauses, SignalCauses, row-causes}
+use Rattle.ws_laws.proofs.Causes.{ChunkCauses, EndCauses, ErrorCauses, SignalCauses, row-causes}
 use Rattle.ws_laws.proofs.Shapes.{transform_shape, transform_shapes, tee_shape, tee_shapes, stream_shape, ReadableOf, map-there}
 use Rattle.ws_laws.proofs.StaysBytes.{row-byte}
 use Rattle.ws_laws.proofs.Tables.{either}
@@ -276,16 +279,16 @@ module _ (bad : Plain → ℕ) (s : Slots) where
   abbrev Begins : Begun → Type 0
   Begins b = Erring bad b.done.slots b.done.caused
 
-  default-finishes : (i : StreamId) → has_byte i s ≡ false → Begins (calls.for_readable i (calls.finish i) s)
+  default-finishes : (i : StreamId) → has_byte i s ≡ false → Begins (replying.for_readable i (controller_calls.finish i) s)
   default-finishes i n = grind (arith, n)
 
-  finishes : (i : StreamId) → bad_of bad (erred_by (Finish i) s) ≡ 0 → Begins (calls.finish_call i s)
+  finishes : (i : StreamId) → bad_of bad (erred_by (Finish i) s) ≡ 0 → Begins (controller_calls.finish_call i s)
   finishes i h =
-      either Begins (has_byte i s) (calls.finish_bytes i s) (calls.for_readable i (calls.finish i) s)
+      either Begins (has_byte i s) (controller_calls.finish_bytes i s) (replying.for_readable i (controller_calls.finish i) s)
       (λ there. either Begins (byte.can_take (byte_at i s)) _ _ (λ can. (λ e. not_bad bad (has_byte i s && byte.close_throws (byte_at i s)) h e, tt)) (λ cannot. tt)) (default-finishes i)
 
   reads : (room : List ℕ) (element least : ℕ) (lock : Option Lock) → bad_of bad (erred_by_read (length room) element (least * element) s lock) ≡ 0
-      → Begins (calls.by_byob_reader (calls.read_into room element least) calls.rejected s lock)
+      → Begins (lock_calls.by_byob_reader (lock_calls.read_into room element least) replying.rejected s lock)
   reads room element least None h = tt
   reads room element least (Some (Reader stream closed)) h = tt
   reads room element least (Some (ByobReader (Some i) closed)) h =
@@ -295,15 +298,15 @@ module _ (bad : Plain → ℕ) (s : Slots) where
   reads room element least (Some (ReleasedWriter w)) h = tt
   reads room element least (Some Inner) h = tt
 
-  refused : (lock : Option Lock) → Begins (calls.by_byob_reader (λ i. calls.rejected) calls.rejected s lock)
+  refused : (lock : Option Lock) → Begins (lock_calls.by_byob_reader (λ i. replying.rejected) replying.rejected s lock)
   refused lock = grind arith
 
   reads_into : (room : List ℕ) (element least : ℕ) (lock : Option Lock)
-      → bad_of bad (if calls.is_view (length room) element && (nat_eq least 1 && not (is_empty room)) then erred_by_read (length room) element (least * element) s lock else []) ≡ 0
-      → Begins (calls.read_into_by room element least s lock)
+      → bad_of bad (if lock_calls.is_view (length room) element && (nat_eq least 1 && not (is_empty room)) then erred_by_read (length room) element (least * element) s lock else []) ≡ 0
+      → Begins (lock_calls.read_into_by room element least s lock)
   reads_into room element least lock h =
-      either Begins (not (calls.is_view (length room) element && nat_eq least 1)) (calls.unsupported s) _ (λ e. tt)
-      (λ e. either Begins (is_empty room) _ (calls.by_byob_reader (calls.read_into room element least) calls.rejected s lock) (λ f. refused lock)
+      either Begins (not (lock_calls.is_view (length room) element && nat_eq least 1)) (replying.unsupported s) _ (λ e. tt)
+      (λ e. either Begins (is_empty room) _ (lock_calls.by_byob_reader (lock_calls.read_into room element least) replying.rejected s lock) (λ f. refused lock)
       (λ f. reads room element least lock (subst (λ (b : Bool). bad_of bad (if b then erred_by_read (length room) element (least * element) s lock else []) ≡ 0) (passes _ _ _ e f) h)))
     where
       passes : (a b c : Bool) → not (a && b) ≡ false → c ≡ false → a && (b && not c) ≡ true

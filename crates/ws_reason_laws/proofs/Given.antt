@@ -14,8 +14,9 @@ use Rattle.ws_steps.specs.declared.calls.Call.TheVariants.{Pipe}
 use Rattle.ws_steps.specs.declared.calls.Reply.{Reply}
 use Rattle.ws_steps.specs.declared.calls.Reply.TheVariants.{Promise}
 use Rattle.ws_steps.specs.declared.pipes.Prevent.{Prevent}
-use Rattle.ws_steps.specs.Calls.{Begun, begin}
-use Rattle.ws_steps.specs.Calls as calls
+use Rattle.ws_steps.specs.Begun.{Begun}
+use Rattle.ws_steps.specs.Calls.{begin}
+use Rattle.ws_steps.specs.PipeCalls as pipe_calls
 use Rattle.ws_steps.specs.Cross as cross
 use Rattle.ws_steps.specs.Cross.{data_clone}
 use Rattle.ws_steps.specs.Effects.{type_error}
@@ -83,7 +84,7 @@ same_promise p q e = cc
 
 module _ (i j : StreamId) (prevent : Prevent) (signal : Option SignalId) (s : Slots) where
   abbrev made : Begun
-  made = calls.pipe_to i j prevent signal s
+  made = pipe_calls.pipe_to i j prevent signal s
 
   abbrev c : Call
   c = Pipe i j prevent signal
@@ -115,7 +116,7 @@ pipe-whole bad opening i j prevent signal q f e ready good there w =
     let s : Slots = run opening empty in
     let me : PipeId = record { 0 = length s.pipes } in
     let c : Call = Pipe i j prevent signal in
-    let b : begin c s ≡ calls.pipe_to i j prevent signal s = begin-is i j prevent signal s q f e in
+    let b : begin c s ≡ pipe_calls.pipe_to i j prevent signal s = begin-is i j prevent signal s q f e in
     let mind : StreamId → Prevent → Bool = minds bad.of bad.half me me in
     let new : NewOpens mind me c s = rw b (λ x none there m g. made-opens mind me s i j prevent signal (λ n. let o = ready (minded bad me i prevent n) in record { closing = o.closing; closed = o.closed }) x none there m g) in
     let known : Known bad me (Some q.0) (begin c s).done.slots (begin c s).done.caused =
@@ -188,7 +189,7 @@ good-rejection bad opening xs i j prevent signal q r good halved fairs free repl
     let all_ : run (opening ++ Called c ∷ xs) empty ≡ run xs (run pre empty) = run_then opening (Called c ∷ xs) empty ∙ ap (λ (z : Slots). run xs z) (sym at) in
     whole_rejected bad me q (run xs (run pre empty)) r w3 (rw all_ at out)
   where
-    there : begin (Pipe i j prevent signal) (run opening empty) ≡ calls.pipe_to i j prevent signal (run opening empty)
+    there : begin (Pipe i j prevent signal) (run opening empty) ≡ pipe_calls.pipe_to i j prevent signal (run opening empty)
         → slice_get (begin (Pipe i j prevent signal) (run opening empty)).done.slots.pipes (length (run opening empty).pipes) ≡ Some (pipe.set_up i j prevent signal (next_id (fresh (fresh (fresh (run opening empty).promises)))))
     there b = rw b (pipe_last (run opening empty).pipes _)
 

@@ -10,7 +10,8 @@ use Rattle.ws_steps.specs.declared.pipes.PipeOperation.TheVariants as pipe_names
 use Rattle.ws_steps.specs.declared.promises.Job.{Job}
 use Rattle.ws_steps.specs.declared.writable.WritableOperation.{WritableOperation}
 use Rattle.ws_steps.specs.declared.writable.WritableOperation.TheVariants as names
-use Rattle.ws_steps.specs.Calls.{begin, add_stream}
+use Rattle.ws_steps.specs.MakingCalls.{add_stream}
+use Rattle.ws_steps.specs.Calls.{begin}
 use Rattle.ws_steps.specs.Histories.{is_same}
 use Rattle.ws_steps.specs.Jobs.{job_effects}
 use Rattle.ws_steps.specs.Operations.{byte_operation, writable_operation}
@@ -22,7 +23,7 @@ use Rattle.ws_steps.specs.Writable as writable
 use Rattle.ws_steps.specs.Writable.{is_closed, has_ended}
 use Rattle.ws_steps.specs.WritableHistory.{Writes as History, no_writes, writes_then, effect_writes}
 use Rattle.ws_laws.proofs.Begin.{begin-makes}
-use Rattle.ws_laws.proofs.Rows.{row-streams}
+use Rattle.ws_laws.proofs.Apart.{row-streams}
 use Rattle.ws_laws.proofs.Shapes.{StreamShape, WritableOf, stream_shape, row-stream_shapes}
 use Rattle.ws_laws.proofs.Tables.{either, same_id, writable_acts, on_source-writable, on_byte-writable, on_writable-same, on_writable-other, place_last, place_before, eq_numbers, unequal_numbers}
 use Rattle.ws_laws.proofs.Truth.{or_right}

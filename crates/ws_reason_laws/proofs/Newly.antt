@@ -10,8 +10,11 @@ use Rattle.ws_steps.specs.declared.calls.Call.TheVariants.{Pipe, Send}
 use Rattle.ws_steps.specs.declared.calls.Reply.TheVariants.{TooMany}
 use Rattle.ws_steps.specs.declared.pipes.Prevent.{Prevent}
 use Rattle.ws_steps.specs.declared.port.Side.TheVariants.{Readable as ReadableSide, Writable as WritableSide}
-use Rattle.ws_steps.specs.Calls.{Begun, begin}
-use Rattle.ws_steps.specs.Calls as calls
+use Rattle.ws_steps.specs.Begun.{Begun}
+use Rattle.ws_steps.specs.Calls.{begin}
+use Rattle.ws_steps.specs.Begun as replying
+use Rattle.ws_steps.specs.MakingCalls as making_calls
+use Rattle.ws_steps.specs.PipeCalls as pipe_calls
 use Rattle.ws_steps.specs.Effects.{type_error}
 use Rattle.ws_steps.specs.Pipes as pipe
 use Rattle.ws_steps.specs.Promises.{next_id, fresh}
@@ -39,7 +42,7 @@ some_pipe v w e = cc
 none_some : (y : pipe.Slots) → ◌≡◌ {A = Option pipe.Slots} None (Some y) → ⊥
 none_some y e = cc
 
-begins_asks : (j : StreamId) (me : PipeId) (x y : PromiseId) (signal : Option SignalId) (reason : Option Plain) → all (asks j) (calls.pipe_begins me x y signal reason) ≡ 0
+begins_asks : (j : StreamId) (me : PipeId) (x y : PromiseId) (signal : Option SignalId) (reason : Option Plain) → all (asks j) (pipe_calls.pipe_begins me x y signal reason) ≡ 0
 begins_asks j me x y signal reason = grind arith
 
 -- what is to be shown of what a call begins with
@@ -55,7 +58,7 @@ module _ (mind : StreamId → Prevent → Bool) (p : PipeId) (s : Slots) where
 
   module _ (i j : StreamId) (prevent : Prevent) (signal : Option SignalId) where
     abbrev made : Begun
-    made = calls.pipe_to i j prevent signal s
+    made = pipe_calls.pipe_to i j prevent signal s
 
     -- where one is made, and its destination is neither closing nor closed if it minds
     pub made-opens : (mind i prevent ≡ true → Opened j (writable_at j s)) → Opening mind p s made
@@ -66,10 +69,10 @@ module _ (mind : StreamId → Prevent → Bool) (p : PipeId) (s : Slots) where
         (λ (e : (slice_get s.pipes p.0 ≡ None) × (slice_get (s.pipes ++ y ∷ []) p.0 ≡ Some y)). some_pipe x y (sym there ∙ e.1))
         (appended s.pipes y p.0) in
         let n : mind i prevent ≡ true = subst (λ (z : pipe.Slots). mind z.source z.prevent ≡ true) is m in
-        let none = begins_asks j (record { 0 = length s.pipes }) (next_id s.promises) (next_id (fresh (fresh s.promises))) signal (calls.reason_of signal s) in
+        let none = begins_asks j (record { 0 = length s.pipes }) (next_id s.promises) (next_id (fresh (fresh s.promises))) signal (pipe_calls.reason_of signal s) in
         subst (λ (z : pipe.Slots). Opened z.dest (writable_at z.dest made.done.slots) × (all (asks z.dest) made.done.caused ≡ 0)) (sym is) (ready n, asks_none none)
       where
-        asks_none : all (asks j) (calls.pipe_begins (record { 0 = length s.pipes }) (next_id s.promises) (next_id (fresh (fresh s.promises))) signal (calls.reason_of signal s)) ≡ 0 → all (asks j) made.done.caused ≡ 0
+        asks_none : all (asks j) (pipe_calls.pipe_begins (record { 0 = length s.pipes }) (next_id s.promises) (next_id (fresh (fresh s.promises))) signal (pipe_calls.reason_of signal s)) ≡ 0 → all (asks j) made.done.caused ≡ 0
         asks_none h = grind (arith, h)
 
     -- a pipe is made where both ends are there and unlocked
@@ -78,17 +81,17 @@ module _ (mind : StreamId → Prevent → Bool) (p : PipeId) (s : Slots) where
     unfolding begin
     pipe-opens ready =
         either (Opening mind p s) (has_source i s) _ _
-        (λ there. either (Opening mind p s) (has_writable j s) _ _ (λ e. signalled there signal refl) (λ e. same-opens (calls.unsupported s) refl))
-        (λ e. same-opens (calls.unsupported s) refl)
+        (λ there. either (Opening mind p s) (has_writable j s) _ _ (λ e. signalled there signal refl) (λ e. same-opens (replying.unsupported s) refl))
+        (λ e. same-opens (replying.unsupported s) refl)
       where
-        both : has_source i s ≡ true → Opening mind p s (calls.pipe_unlocked i j prevent signal s)
+        both : has_source i s ≡ true → Opening mind p s (pipe_calls.pipe_unlocked i j prevent signal s)
         both there =
-            either (Opening mind p s) (readable_looks.is_locked (source_at i s)) _ _ (λ e. same-opens (calls.rejected s) refl)
-            (λ free. either (Opening mind p s) (writable_looks.is_locked (writable_at j s)) _ _ (λ e. same-opens (calls.rejected s) refl) (λ unlocked. made-opens (ready there free unlocked)))
+            either (Opening mind p s) (readable_looks.is_locked (source_at i s)) _ _ (λ e. same-opens (replying.rejected s) refl)
+            (λ free. either (Opening mind p s) (writable_looks.is_locked (writable_at j s)) _ _ (λ e. same-opens (replying.rejected s) refl) (λ unlocked. made-opens (ready there free unlocked)))
 
-        signalled : has_source i s ≡ true → (a : Option SignalId) → signal ≡ a → Opening mind p s (calls.for_signal_where a (calls.pipe_unlocked i j prevent signal) s)
+        signalled : has_source i s ≡ true → (a : Option SignalId) → signal ≡ a → Opening mind p s (pipe_calls.for_signal_where a (pipe_calls.pipe_unlocked i j prevent signal) s)
         signalled there None e = both there
-        signalled there (Some a) e = either (Opening mind p s) (has_signal a s) _ _ (λ e. both there) (λ e. same-opens (calls.unsupported s) refl)
+        signalled there (Some a) e = either (Opening mind p s) (has_signal a s) _ _ (λ e. both there) (λ e. same-opens (replying.unsupported s) refl)
 
 module _ (bad : Badness) (me : PipeId) (s : Slots) (halved : Halved bad.half s) where
   abbrev mind : PipeId → StreamId → Prevent → Bool
@@ -137,34 +140,34 @@ module _ (bad : Badness) (me : PipeId) (s : Slots) (halved : Halved bad.half s) 
     shape-last [] x = refl
     shape-last (y ∷ xs) x = shape-last xs x
 
-    new-opened : Opened j (writable_at j (calls.add_port j s WritableSide))
-    new-opened = rw (stream-last s.streams (calls.end_of (record { 0 = length s.ports }) WritableSide)) (record { closing = refl; closed = refl })
+    new-opened : Opened j (writable_at j (pipe_calls.add_port j s WritableSide))
+    new-opened = rw (stream-last s.streams (pipe_calls.end_of (record { 0 = length s.ports }) WritableSide)) (record { closing = refl; closed = refl })
 
-    minds-none : Halved bad.half (calls.add_port j s ReadableSide) → mind p j calls.no_prevent ≡ true → ⊥
+    minds-none : Halved bad.half (pipe_calls.add_port j s ReadableSide) → mind p j pipe_calls.no_prevent ≡ true → ⊥
     minds-none h m =
-        let n : bad.half j.0 ≡ false = h j _ (shape-last s.streams (calls.end_of (record { 0 = length s.ports }) ReadableSide)) in
+        let n : bad.half j.0 ≡ false = h j _ (shape-last s.streams (pipe_calls.end_of (record { 0 = length s.ports }) ReadableSide)) in
         grind (arith, m, n, other)
 
-    sends-readable : (i : StreamId) → Sent (calls.send_readable i j s)
+    sends-readable : (i : StreamId) → Sent (pipe_calls.send_readable i j s)
     sends-readable i h x none there m g =
-        let o = made-opens (mind p) p (calls.add_port j s WritableSide) i j calls.no_prevent None (λ m. new-opened) x none there m g in (o.0, omega (arith, o.1))
+        let o = made-opens (mind p) p (pipe_calls.add_port j s WritableSide) i j pipe_calls.no_prevent None (λ m. new-opened) x none there m g in (o.0, omega (arith, o.1))
 
-    sends-writable : (i : StreamId) → Sent (calls.send_writable i j s)
+    sends-writable : (i : StreamId) → Sent (pipe_calls.send_writable i j s)
     sends-writable i h x none there m g =
-        let o = made-opens (mind p) p (calls.add_port j s ReadableSide) j i calls.no_prevent None (λ n. absurd (minds-none h n)) x none there m g in (o.0, omega (arith, o.1))
+        let o = made-opens (mind p) p (pipe_calls.add_port j s ReadableSide) j i pipe_calls.no_prevent None (λ n. absurd (minds-none h n)) x none there m g in (o.0, omega (arith, o.1))
 
-    made-sent : (make : StreamId → Slots → Begun) → Sent (make j s) → Sent (calls.make_stream make s)
-    made-sent make k = either Sent (nat_lt (length s.streams) most_streams) (make j s) (calls.replies TooMany s) (λ e. k) (λ e h. same-opens (mind p) p s (calls.replies TooMany s) refl)
+    made-sent : (make : StreamId → Slots → Begun) → Sent (make j s) → Sent (making_calls.make_stream make s)
+    made-sent make k = either Sent (nat_lt (length s.streams) most_streams) (make j s) (replying.replies TooMany s) (λ e. k) (λ e h. same-opens (mind p) p s (replying.replies TooMany s) refl)
 
-    sends : (i : StreamId) → Sent (calls.send i s)
+    sends : (i : StreamId) → Sent (pipe_calls.send i s)
     sends i =
         either Sent (has_source i s) _ _
         (λ there. either Sent (has_source i s) _ _
-        (λ e. either Sent (readable_looks.is_locked (source_at i s)) _ _ (λ l h. same-opens (mind p) p s (calls.throws_data_clone s) refl) (λ free. made-sent (calls.send_readable i) (sends-readable i)))
-        (λ e h. same-opens (mind p) p s (calls.unsupported s) refl))
+        (λ e. either Sent (readable_looks.is_locked (source_at i s)) _ _ (λ l h. same-opens (mind p) p s (replying.throws_data_clone s) refl) (λ free. made-sent (pipe_calls.send_readable i) (sends-readable i)))
+        (λ e h. same-opens (mind p) p s (replying.unsupported s) refl))
         (λ none. either Sent (has_writable i s) _ _
-        (λ e. either Sent (writable_looks.is_locked (writable_at i s)) _ _ (λ l h. same-opens (mind p) p s (calls.throws_data_clone s) refl) (λ free. made-sent (calls.send_writable i) (sends-writable i)))
-        (λ e h. same-opens (mind p) p s (calls.unsupported s) refl))
+        (λ e. either Sent (writable_looks.is_locked (writable_at i s)) _ _ (λ l h. same-opens (mind p) p s (replying.throws_data_clone s) refl) (λ free. made-sent (pipe_calls.send_writable i) (sends-writable i)))
+        (λ e h. same-opens (mind p) p s (replying.unsupported s) refl))
 
     send-opens : (i : StreamId) → Halved bad.half (begin (Send i) s).done.slots → NewOpens (mind p) p (Send i) s
     unfolding begin

@@ -11,7 +11,8 @@ use Rattle.ws_steps.specs.declared.pipes.PipeOperation.{PipeOperation}
 use Rattle.ws_steps.specs.declared.pipes.Prevent.{Prevent}
 use Rattle.ws_steps.specs.declared.promises.Job.{Job}
 use Rattle.ws_steps.specs.declared.writable.WritableOperation.{WritableOperation}
-use Rattle.ws_steps.specs.Calls.{begin, add_stream}
+use Rattle.ws_steps.specs.MakingCalls.{add_stream}
+use Rattle.ws_steps.specs.Calls.{begin}
 use Rattle.ws_steps.specs.Histories.{is_same}
 use Rattle.ws_steps.specs.Jobs.{job_effects}
 use Rattle.ws_steps.specs.declared.byte.ByteOperation.{ByteOperation}
@@ -23,7 +24,8 @@ use Rattle.ws_steps.proofs.PromiseLaws.{slice_get-set_other}
 use Rattle.ws_laws.proofs.Begin.{begin-makes}
 use Rattle.ws_laws.proofs.Lists.{Each}
 use Rattle.ws_laws.proofs.PipeDoes.{PipeCauses, pipe-causes}
-use Rattle.ws_laws.proofs.Rows.{Causes, IsNoPipe, row-causes, row-pipes, row-streams}
+use Rattle.ws_laws.proofs.Apart.{IsNoPipe, row-pipes, row-streams}
+use Rattle.ws_laws.proofs.Causes.{Causes, row-causes}
 use Rattle.ws_laws.proofs.Tables.{either, same_id, is_same-refl, eq_numbers, unequal_numbers, writable_acts, on_source-writable, on_byte-writable, on_writable-same, on_writable-other, place_before, no_stream}
 use Rattle.ws_lock_laws.specs.Locks.{Writing, holds}
 use Rattle.ws_lock_laws.specs.LockLaws.{spares, all_spare}

@@ -19,7 +19,7 @@ use Rattle.ws_steps.specs.declared.locks.Lock.TheVariants.{ByobReader}
 use Rattle.ws_steps.specs.declared.pipes.Prevent.{Prevent}
 use Rattle.ws_steps.specs.declared.readable.ReadableState.TheVariants.{Errored}
 use Rattle.ws_steps.specs.Bytes as byte
-use Rattle.ws_steps.specs.Calls.{is_view}
+use Rattle.ws_steps.specs.LockCalls.{is_view}
 use Rattle.ws_steps.specs.Cross.{data_clone}
 use Rattle.ws_steps.specs.Descriptors.{Descriptor, fill_from_queue}
 use Rattle.ws_steps.specs.Effects.{type_error}

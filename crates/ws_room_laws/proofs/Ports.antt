@@ -1,5 +1,5 @@
 -- What an operation of a port takes.
-use Rattle.std.proofs.Common.{◌≡◌, ◌≤◌, ℕ, ◌+◌, Bool, true, false, List, [], ◌∷◌, Option, Some, None, Err, refl, arith}
+use Rattle.std.proofs.Common.{◌≤◌, ℕ, ◌+◌, Bool, true, false, List, [], ◌∷◌, Option, Some, None, Err, arith}
 use Rattle.std.specs.Prelude.{if◌then◌else◌}
 use Rattle.ws_value.specs.declared.ids.PortId.{PortId}
 use Rattle.ws_value.specs.declared.ids.PromiseId.{PromiseId}
@@ -21,7 +21,7 @@ use Rattle.ws_steps.specs.declared.readable.ReadableOperation.TheVariants.{Enque
 use Rattle.ws_steps.specs.declared.transform.Taker.TheVariants.{ToPort}
 use Rattle.ws_steps.specs.declared.writable.WritableOperation.TheVariants.{ErrorIfNeeded, HandOn}
 use Rattle.ws_steps.specs.Operations.{port_operation}
-use Rattle.ws_steps.specs.Promises.{next_id, fresh}
+use Rattle.ws_steps.specs.Promises.{next_id}
 use Rattle.ws_steps.specs.Cross.{Acts, causing, done, data_clone, posting, post, post_or_fail, posted, disentangle, pull, leave, close, wait_for, write, hold_back, hand_on, go_on, write_goes_on, post_chunk, unblock_by, unblock, deliver_to, deliver}
 use Rattle.ws_steps.specs.Places.{Prices, price, prices_of, port_price, table_size}
 use Rattle.ws_room_laws.proofs.Tables.{settle-size, fresh-size, tell-size}

@@ -17,7 +17,8 @@ use Rattle.ws_steps.specs.declared.writable.WritableOperation.{WritableOperation
 use Rattle.ws_steps.specs.Bytes as byte
 use Rattle.ws_steps.specs.Readable as readable
 use Rattle.ws_steps.specs.Writable as writable
-use Rattle.ws_steps.specs.Calls.{Begun, begin}
+use Rattle.ws_steps.specs.Begun.{Begun}
+use Rattle.ws_steps.specs.Calls.{begin}
 use Rattle.ws_steps.specs.Jobs.{job_effects}
 use Rattle.ws_steps.specs.Operations.{readable_operation, byte_readable_operation, byte_operation, writable_operation}
 use Rattle.ws_steps.specs.Promises.{Table, next_id, after_next_job, watch}
@@ -28,7 +29,8 @@ use Rattle.ws_laws.proofs.ByteHands.{sum_of, given_read}
 use Rattle.ws_laws.proofs.EachCall.{each_call}
 use Rattle.ws_laws.proofs.Lists.{Each, each-append}
 use Rattle.ws_laws.proofs.PipeDoes.{PipeCauses}
-use Rattle.ws_laws.proofs.Rows.{IsApart, ChunkCauses, EndCauses, ErrorCauses, SignalCauses, row-causes, row-streams}
+use Rattle.ws_laws.proofs.Apart.{IsApart, row-streams}
+use Rattle.ws_laws.proofs.Causes.{ChunkCauses, EndCauses, ErrorCauses, SignalCauses, row-causes}
 use Rattle.ws_laws.proofs.Tables.{either, is_same-refl, readable_there, byte_there, readable_acts, byte_acts, writable_acts, place_last, place_before, eq_numbers, unequal_numbers}
 use Rattle.ws_laws.proofs.TransformDoes.{TransformCauses}
 use Rattle.ws_laws.proofs.Walker.{Stays}
@@ -47,7 +49,7 @@ use Rattle.ws_laws.proofs.TeeDoes.{TeeCauses}
 use Rattle.ws_value.specs.declared.ids.TeeId.{TeeId}
 use Rattle.ws_steps.specs.declared.port.Side.{Side}
 use Rattle.ws_steps.specs.declared.port.Side.TheVariants.{Readable as ReadableSide, Writable as WritableSide}
-use Rattle.ws_steps.specs.Calls as calls
+use Rattle.ws_steps.specs.PipeCalls as pipe_calls
 
 -- a read into a room comes by a reader
 
@@ -92,7 +94,7 @@ held-reader s l i closed k h there =
     let locked : is_locked Reading i s ≡ true = is_locked_by (is_locked Reading i s) (omega (arith, even, n, self)) in
     some_reader (byte_at i s).stream.reader (sym (lock-there (slice_get s.streams i.0) (byte_at i s) (byte_there (slice_get s.streams i.0) there)) ∙ locked)
 
-start-told : (s : Slots) (i : StreamId) (side : Side) → IsTold s (calls.start_end i side)
+start-told : (s : Slots) (i : StreamId) (side : Side) → IsTold s (pipe_calls.start_end i side)
 start-told s i ReadableSide = tt
 start-told s i WritableSide = tt
 
@@ -130,7 +132,7 @@ call-told c s k = each_call (λ (b : Begun). Each (IsTold b.done.slots) b.done.c
   fail_writable = λ i reason. (tt, tt);
   pipe = λ source dest prevent signal e f free m. grind (arith, each-append);
   make_signal = tt;
-  open_end = λ side. (start-told (calls.open_end side (record { 0 = length s.streams }) s).done.slots (record { 0 = length s.streams }) side, tt);
+  open_end = λ side. (start-told (pipe_calls.open_end side (record { 0 = length s.streams }) s).done.slots (record { 0 = length s.streams }) side, tt);
   send_readable = λ i there free. (tt, (tt, (tt, (tt, (tt, (tt, (tt, tt)))))));
   send_writable = λ i there free. (tt, (tt, (tt, (tt, (tt, (tt, (tt, tt)))))));
   deliver = λ p m e is. (tt, tt);
@@ -297,7 +299,7 @@ module _ (w : ReadRequest → ℕ) (space unit least : ℕ) where
       writable = λ z owner mark size k. λ i. appended (WritableStream (writable.set_up owner mark size)) z.streams i.0 (nat_eq i.0 (length z.streams)) refl tt (k i);
     }) c s f
 
-    start-fair : (i : StreamId) (side : Side) → IsFair w space unit least (calls.start_end i side)
+    start-fair : (i : StreamId) (side : Side) → IsFair w space unit least (pipe_calls.start_end i side)
     start-fair i ReadableSide = tt
     start-fair i WritableSide = tt
 

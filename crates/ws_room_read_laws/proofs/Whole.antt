@@ -8,8 +8,10 @@ use Rattle.ws_steps.specs.declared.locks.Lock.{Lock}
 use Rattle.ws_steps.specs.declared.locks.Lock.TheVariants.{Reader, ByobReader, Writer, ReleasedWriter, Inner}
 use Rattle.ws_steps.specs.declared.readable.{ReadRequest.{ReadRequest}, ReadRequest.TheVariants.{Pipe as PipeRequest, Tee as TeeRequest}}
 use Rattle.ws_steps.specs.ByteLaws.{EachRoomIsWhole}
-use Rattle.ws_steps.specs.Calls as calls
-use Rattle.ws_steps.specs.Calls.{Begun, begin, named}
+use Rattle.ws_steps.specs.Begun as replying
+use Rattle.ws_steps.specs.LockCalls as lock_calls
+use Rattle.ws_steps.specs.Begun.{Begun}
+use Rattle.ws_steps.specs.Calls.{begin, named}
 use Rattle.ws_steps.specs.Descriptors.{Descriptor}
 use Rattle.ws_steps.specs.Promises.{Entry as PromiseEntry, Table, outcome_at, next_id, fresh}
 use Rattle.ws_steps.specs.Queues.{is_empty}
@@ -152,19 +154,19 @@ module _ (room : List ℕ) (element least : ℕ) (s : Slots) where
   same_promise : (p q : PromiseId) → Named p ≡ Named q → q ≡ p
   same_promise p q e = cc
 
-  unsupported-begins : Begins (calls.unsupported s)
+  unsupported-begins : Begins (replying.unsupported s)
   unsupported-begins = record { effects = tt; promise = λ p. λ e. absurd (cc) }
 
-  rejected-begins : Begins (calls.rejected s)
+  rejected-begins : Begins (replying.rejected s)
   rejected-begins = record { effects = (tt, tt); promise = λ p e. (same_promise new p e, fresh-answered) }
 
-  reads-begins : (i : StreamId) → Begins (calls.read_into room element least i s)
+  reads-begins : (i : StreamId) → Begins (lock_calls.read_into room element least i s)
   reads-begins i = record { effects = (λ o. (refl, refl, refl), tt); promise = λ p e. (same_promise new p e, fresh-answered) }
 
-  by_lock : (holding : StreamId → Slots → Begun) (lock : Option Lock) → ((i : StreamId) → Begins (holding i s)) → Begins (calls.by_byob_reader holding calls.rejected s lock)
+  by_lock : (holding : StreamId → Slots → Begun) (lock : Option Lock) → ((i : StreamId) → Begins (holding i s)) → Begins (lock_calls.by_byob_reader holding replying.rejected s lock)
   by_lock holding None h = unsupported-begins
   by_lock holding (Some (Reader stream closed)) h = unsupported-begins
-  by_lock holding (Some (ByobReader (Some i) closed)) h = either Begins (has_source i s) (holding i s) (calls.unsupported s) (λ there. h i) (λ none. unsupported-begins)
+  by_lock holding (Some (ByobReader (Some i) closed)) h = either Begins (has_source i s) (holding i s) (replying.unsupported s) (λ there. h i) (λ none. unsupported-begins)
   by_lock holding (Some (ByobReader None closed)) h = rejected-begins
   by_lock holding (Some (Writer i)) h = unsupported-begins
   by_lock holding (Some (ReleasedWriter w)) h = unsupported-begins
@@ -173,9 +175,9 @@ module _ (room : List ℕ) (element least : ℕ) (s : Slots) where
   into-begins : (l : LockId) → Begins (begin (ReadInto l room element least) s)
   unfolding begin
   into-begins l =
-      either Begins (not (calls.is_view (length room) element && nat_eq least 1)) (calls.unsupported s) _ (λ e. unsupported-begins)
-      (λ e. either Begins (is_empty room) (calls.by_byob_reader (λ i. calls.rejected) calls.rejected s (lock_at l s)) (calls.by_byob_reader (calls.read_into room element least) calls.rejected s (lock_at l s))
-      (λ f. by_lock (λ i. calls.rejected) (lock_at l s) (λ i. rejected-begins)) (λ f. by_lock (calls.read_into room element least) (lock_at l s) reads-begins))
+      either Begins (not (lock_calls.is_view (length room) element && nat_eq least 1)) (replying.unsupported s) _ (λ e. unsupported-begins)
+      (λ e. either Begins (is_empty room) (lock_calls.by_byob_reader (λ i. replying.rejected) replying.rejected s (lock_at l s)) (lock_calls.by_byob_reader (lock_calls.read_into room element least) replying.rejected s (lock_at l s))
+      (λ f. by_lock (λ i. replying.rejected) (lock_at l s) (λ i. rejected-begins)) (λ f. by_lock (lock_calls.read_into room element least) (lock_at l s) reads-begins))
 
 -- what the read has got by the end of a run
 has-got : (before after : List Entry) (l : LockId) (room : List ℕ) (element least : ℕ) (p : PromiseId) (o : Outcome) → let s : Slots = run before empty in let c : Call = ReadInto l room element least in

@@ -10,7 +10,9 @@ use Rattle.ws_steps.specs.declared.effects.Owner.TheVariants.{Host, HalfOf, Bran
 use Rattle.ws_steps.specs.declared.transform.TransformId.{TransformId}
 use Rattle.ws_steps.specs.declared.pipes.Phase.{Phase}
 use Rattle.ws_steps.specs.declared.pipes.Phase.TheVariants.{Flowing, Waiting, Acting, Over}
-use Rattle.ws_steps.specs.Calls.{Begun, begin, enqueue_by}
+use Rattle.ws_steps.specs.Begun.{Begun}
+use Rattle.ws_steps.specs.ControllerCalls.{enqueue_by}
+use Rattle.ws_steps.specs.Calls.{begin}
 use Rattle.ws_steps.specs.Readable as readable
 use Rattle.ws_steps.specs.Readable.{can_close_or_enqueue}
 use Rattle.ws_steps.specs.Run.{reply_to}

@@ -16,6 +16,11 @@ pub mod Slots
 pub mod Places
 pub mod Turns
 pub mod Jobs
+pub mod Begun
+pub mod MakingCalls
+pub mod LockCalls
+pub mod ControllerCalls
+pub mod PipeCalls
 pub mod Calls
 pub mod Run
 pub mod Histories

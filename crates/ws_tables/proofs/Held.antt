@@ -16,7 +16,7 @@ use Rattle.ws_steps.specs.Slots.{Slots, Stream, ReadableStream, ByteStream, Writ
 use Rattle.ws_steps.specs.Turns.{row, on_source}
 use Rattle.ws_room_laws.proofs.Rows.{row-takes, get-other, get-same, same-or, each-none}
 use Rattle.ws_room_laws.proofs.Writables.{writable-takes}
-use Rattle.ws_laws.proofs.Rows.{row-streams}
+use Rattle.ws_laws.proofs.Apart.{row-streams}
 use Rattle.ws_tables.specs.View.{stream_of}
 use Rattle.ws_tables.specs.Room.{queued_in}
 use Rattle.ws_tables.specs.declared.tables.Stream.{Stream as StreamRecord}

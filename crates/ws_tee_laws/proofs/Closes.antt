@@ -19,7 +19,9 @@ use Rattle.ws_steps.specs.Turns.{row, on_source}
 use Rattle.ws_laws.proofs.Lists.{Each, each-append}
 use Rattle.ws_laws.proofs.Outcomes.{Keeps, keeps-same}
 use Rattle.ws_laws.proofs.PipeDoes.{PipeCauses}
-use Rattle.ws_laws.proofs.Rows.{Causes, row-causes, row-changes, row-streams}
+use Rattle.ws_laws.proofs.Rows.{row-changes}
+use Rattle.ws_laws.proofs.Apart.{row-streams}
+use Rattle.ws_laws.proofs.Causes.{Causes, row-causes}
 use Rattle.ws_laws.proofs.Stays.{keeps-changes}
 use Rattle.ws_laws.proofs.Tables.{is_same-refl, same_id, readable_acts, readable_there, on_readable-same, on_source-other, on_byte-other, on_writable-other}
 use Rattle.ws_laws.proofs.TeeDoes.{TeeCauses}

@@ -19,7 +19,7 @@ use Rattle.ws_steps.specs.Transform.{set_backpressure, unblock, transform_error,
 use Rattle.ws_steps.specs.Turns.{row}
 use Rattle.ws_laws.proofs.Lists.{Each, each-append}
 use Rattle.ws_laws.proofs.PipeDoes.{PipeCauses}
-use Rattle.ws_laws.proofs.Rows.{Causes, row-causes}
+use Rattle.ws_laws.proofs.Causes.{Causes, row-causes}
 use Rattle.ws_laws.proofs.Tables.{either}
 use Rattle.ws_value.specs.declared.ids.PortId.{PortId}
 use Rattle.ws_value.specs.declared.ids.PromiseId.{PromiseId}

@@ -11,7 +11,10 @@ use Rattle.ws_steps.specs.declared.pipes.{SignalOperation.{SignalOperation}, Sig
 use Rattle.ws_steps.specs.declared.promises.{Job.{Job}, Reaction.TheVariants.{Perform}, Step.{Step}}
 use Rattle.ws_steps.specs.declared.promises.Step.TheVariants.{ReadablePull, TeeEnds}
 use Rattle.ws_steps.specs.declared.readable.{ReadRequest.{ReadRequest}, ReadRequest.TheVariants.{Promise, Pipe as PipeRequest, Tee as TeeRequest}}
-use Rattle.ws_steps.specs.Calls.{Begun, begin, make_tee, start_end}
+use Rattle.ws_steps.specs.Begun.{Begun}
+use Rattle.ws_steps.specs.MakingCalls.{make_tee}
+use Rattle.ws_steps.specs.PipeCalls.{start_end}
+use Rattle.ws_steps.specs.Calls.{begin}
 use Rattle.ws_steps.specs.Jobs.{job_effects}
 use Rattle.ws_steps.specs.Promises.{Table, next_id, fresh, after_next_job, watch, react, use_gift}
 use Rattle.ws_steps.specs.Slots.{Slots, owner_at}
@@ -21,7 +24,7 @@ use Rattle.ws_laws.proofs.Begin.{begin-makes}
 use Rattle.ws_laws.proofs.EachCall.{each_call}
 use Rattle.ws_laws.proofs.Lists.{Each, each-append, each-map}
 use Rattle.ws_laws.proofs.PipeDoes.{IsStepOf, PipeCauses}
-use Rattle.ws_laws.proofs.Rows.{ReadableCauses, ChunkCauses, EndCauses, ErrorCauses, SignalCauses, row-causes}
+use Rattle.ws_laws.proofs.Causes.{ReadableCauses, ChunkCauses, EndCauses, ErrorCauses, SignalCauses, row-causes}
 use Rattle.ws_laws.proofs.Shapes.{TeeShape, tee_shape, tee_shapes}
 use Rattle.ws_laws.proofs.Tables.{eq_numbers}
 use Rattle.ws_host_laws.proofs.Carried.{CarriesTee, TeeUses, row-tees_use, Carries, Uses, Own, row-uses}

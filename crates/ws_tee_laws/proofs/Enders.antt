@@ -15,8 +15,10 @@ use Rattle.ws_steps.specs.declared.tee.TeeOperation.TheVariants as ops
 use Rattle.ws_steps.specs.declared.transform.TransformId.{TransformId}
 use Rattle.ws_steps.specs.declared.transform.TransformOperation.{TransformOperation}
 use Rattle.ws_steps.specs.Bytes as byte
-use Rattle.ws_steps.specs.Calls.{Begun, begin}
-use Rattle.ws_steps.specs.Calls as calls
+use Rattle.ws_steps.specs.Begun.{Begun}
+use Rattle.ws_steps.specs.Calls.{begin}
+use Rattle.ws_steps.specs.Begun as replying
+use Rattle.ws_steps.specs.ControllerCalls as controller_calls
 use Rattle.ws_steps.specs.Histories.{is_same}
 use Rattle.ws_steps.specs.Jobs.{job_effects}
 use Rattle.ws_steps.specs.Operations.{tee_operation, transform_operation, port_operation}
@@ -28,7 +30,8 @@ use Rattle.ws_steps.specs.Turns.{row}
 use Rattle.ws_laws.proofs.Halves.{Halved}
 use Rattle.ws_laws.proofs.Lists.{Each, each-append, each-map}
 use Rattle.ws_laws.proofs.PipeDoes.{PipeCauses}
-use Rattle.ws_laws.proofs.Rows.{Causes, IsNoTee, row-causes}
+use Rattle.ws_laws.proofs.Apart.{IsNoTee}
+use Rattle.ws_laws.proofs.Causes.{Causes, row-causes}
 use Rattle.ws_laws.proofs.Shapes.{StreamShape, stream_shape, ReadableOf, branch_of, stream_shapes, transform_shapes, transform_shape, tee_shape, map-there, WritableOf}
 use Rattle.ws_laws.proofs.Tables.{either, same_id, eq_numbers, unequal_numbers}
 use Rattle.ws_laws.proofs.TeeDoes.{IsBranch, TeeCauses, tee-causes}
@@ -247,31 +250,31 @@ module _ (t : TeeId) (half : Half) (b : StreamId) where
     abbrev Begins : Begun → Type 0
     Begins z = Each (NoEnd t b) z.done.caused
 
-    finish-by : (i : StreamId) (owner : Owner) → (readable_at i s).owner ≡ owner → Begins (calls.finish_by i s owner)
+    finish-by : (i : StreamId) (owner : Owner) → (readable_at i s).owner ≡ owner → Begins (controller_calls.finish_by i s owner)
     finish-by i Host e = either Begins (can_close_or_enqueue (readable_at i s)) _ _ (λ can. (other i (not-host i e), tt)) (λ n. tt)
     finish-by i (HalfOf u) e = tt
     finish-by i (BranchOf u h) e = tt
     finish-by i (EndOf c) e = tt
 
-    finish-none : (i : StreamId) → Begins (calls.finish_call i s)
+    finish-none : (i : StreamId) → Begins (controller_calls.finish_call i s)
     finish-none i =
-        either Begins (has_byte i s) (calls.finish_bytes i s) (calls.for_readable i (calls.finish i) s)
+        either Begins (has_byte i s) (controller_calls.finish_bytes i s) (replying.for_readable i (controller_calls.finish i) s)
         (λ h. either Begins (byte.can_take (byte_at i s)) _ _ (λ can. (other i (not-bytes i h), tt)) (λ n. tt))
         (λ h. either Begins (has_readable i s) _ _ (λ k. finish-by i (readable_at i s).owner refl) (λ k. tt))
 
-    fail-by : (i : StreamId) (reason : Plain) (owner : Owner) → (readable_at i s).owner ≡ owner → Begins (calls.fail_readable_by reason i s owner)
+    fail-by : (i : StreamId) (reason : Plain) (owner : Owner) → (readable_at i s).owner ≡ owner → Begins (controller_calls.fail_readable_by reason i s owner)
     fail-by i reason Host e = (other i (not-host i e), tt)
     fail-by i reason (HalfOf u) e = (refl, tt)
     fail-by i reason (BranchOf u h) e = tt
     fail-by i reason (EndOf c) e = tt
 
-    fail-writable : (i : StreamId) (reason : Plain) (owner : Owner) → Begins (calls.fail_writable_by reason i s owner)
+    fail-writable : (i : StreamId) (reason : Plain) (owner : Owner) → Begins (controller_calls.fail_writable_by reason i s owner)
     fail-writable i reason Host = (refl, tt)
     fail-writable i reason (HalfOf u) = tt
     fail-writable i reason (BranchOf u h) = tt
     fail-writable i reason (EndOf c) = tt
 
-    fail-none : (i : StreamId) (reason : Plain) → Begins (calls.fail reason i s)
+    fail-none : (i : StreamId) (reason : Plain) → Begins (controller_calls.fail reason i s)
     fail-none i reason =
         either Begins (has_readable i s) _ _ (λ k. fail-by i reason (readable_at i s).owner refl)
         (λ k. either Begins (has_byte i s) _ _ (λ h. (other i (not-bytes i h), tt))

@@ -6,7 +6,10 @@ use Rattle.ws_steps.specs.declared.calls.Call.{Call}
 use Rattle.ws_steps.specs.declared.effects.{Effect.{Effect}}
 use Rattle.ws_steps.specs.declared.promises.{Job.{Job}, Job.TheVariants.{Reaction as ReactionJob}, Step.TheVariants.{TeeEnds}}
 use Rattle.ws_steps.specs.declared.readable.{ReadableState.{ReadableState}, ReadableState.TheVariants.{Readable, Closed, Errored}}
-use Rattle.ws_steps.specs.Calls.{Begun, begin, make_tee, add_port}
+use Rattle.ws_steps.specs.Begun.{Begun}
+use Rattle.ws_steps.specs.MakingCalls.{make_tee}
+use Rattle.ws_steps.specs.PipeCalls.{add_port}
+use Rattle.ws_steps.specs.Calls.{begin}
 use Rattle.ws_steps.specs.Jobs.{job_effects}
 use Rattle.ws_steps.specs.Promises.{Entry, outcome_at, entry_at, is_open_entry, is_pending, next_id, next_job, first_job, after_next_job, watch}
 use Rattle.std.specs.Option.{option_map}

@@ -18,7 +18,9 @@ use Rattle.ws_steps.specs.declared.tee.{Half.{Half}, Half.TheVariants.{First, Se
 use Rattle.ws_steps.specs.declared.tee.TeeOperation.TheVariants as ops
 use Rattle.ws_steps.specs.declared.transform.TransformId.{TransformId}
 use Rattle.ws_steps.specs.declared.transform.TransformOperation.{TransformOperation}
-use Rattle.ws_steps.specs.Calls.{Begun, begin, start_end}
+use Rattle.ws_steps.specs.Begun.{Begun}
+use Rattle.ws_steps.specs.PipeCalls.{start_end}
+use Rattle.ws_steps.specs.Calls.{begin}
 use Rattle.ws_steps.specs.Histories.{is_same}
 use Rattle.ws_steps.specs.Jobs.{job_effects}
 use Rattle.ws_steps.specs.Operations.{tee_operation, transform_operation, port_operation}
@@ -33,7 +35,8 @@ use Rattle.ws_laws.proofs.EachCall.{each_call}
 use Rattle.ws_laws.proofs.Halves.{Halved}
 use Rattle.ws_laws.proofs.Lists.{Each, each-append, each-map}
 use Rattle.ws_laws.proofs.PipeDoes.{PipeCauses}
-use Rattle.ws_laws.proofs.Rows.{Causes, IsNoTee, row-causes}
+use Rattle.ws_laws.proofs.Apart.{IsNoTee}
+use Rattle.ws_laws.proofs.Causes.{Causes, row-causes}
 use Rattle.ws_laws.proofs.Shapes.{StreamShape, stream_shape, ReadableOf, branch_of, stream_shapes, transform_shapes, transform_shape, tee_shape, map-there, WritableOf}
 use Rattle.ws_laws.proofs.Tables.{either, same_id, unequal_numbers}
 use Rattle.ws_laws.proofs.TeeDoes.{IsBranch, TeeCauses, tee-causes}

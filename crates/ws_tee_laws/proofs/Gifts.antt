@@ -14,7 +14,9 @@ use Rattle.ws_steps.specs.declared.readable.ReadableOperation.TheVariants as nam
 use Rattle.ws_steps.specs.declared.tee.{TeeOperation.TheVariants.{KeepChunk}}
 use Rattle.ws_steps.specs.declared.transform.TransformId.{TransformId}
 use Rattle.ws_steps.specs.declared.writable.WritableOperation.{WritableOperation}
-use Rattle.ws_steps.specs.Calls.{Begun, begin, add_port}
+use Rattle.ws_steps.specs.Begun.{Begun}
+use Rattle.ws_steps.specs.PipeCalls.{add_port}
+use Rattle.ws_steps.specs.Calls.{begin}
 use Rattle.ws_steps.specs.Effects.{Out}
 use Rattle.ws_steps.specs.Histories.{is_same}
 use Rattle.ws_steps.specs.Jobs.{job_effects}
@@ -28,7 +30,8 @@ use Rattle.ws_laws.proofs.EachCall.{each_call}
 use Rattle.ws_laws.proofs.Lists.{Each, each-append, each-map}
 use Rattle.ws_laws.proofs.PipeDoes.{PipeCauses}
 use Rattle.ws_laws.proofs.ReadableDoes.{OfReadableEnds, is_taking, ends-do}
-use Rattle.ws_laws.proofs.Rows.{Causes, row-causes, row-streams}
+use Rattle.ws_laws.proofs.Apart.{row-streams}
+use Rattle.ws_laws.proofs.Causes.{Causes, row-causes}
 use Rattle.ws_laws.proofs.Shapes.{TeeShape, StreamShape, ReadableOf, BytesOf, WritableOf, stream_shape, tee_shape, tee_shapes, row-stream_shapes, row-tee_shapes}
 use Rattle.ws_laws.proofs.Tables.{same_id, readable_acts, readable_there, on_readable-same, on_source-other, on_byte-other, on_writable-other}
 use Rattle.ws_laws.proofs.TeeDoes.{TeeCauses}

@@ -26,7 +26,8 @@ use Rattle.ws_laws.proofs.ByteHands.{sum_of}
 use Rattle.ws_laws.proofs.Halves.{get-stays, get-either}
 use Rattle.ws_laws.proofs.Lists.{Each, each-map}
 use Rattle.ws_laws.proofs.PipeDoes.{PipeCauses}
-use Rattle.ws_laws.proofs.Rows.{Causes, row-causes, row-tees}
+use Rattle.ws_laws.proofs.Apart.{row-tees}
+use Rattle.ws_laws.proofs.Causes.{Causes, row-causes}
 use Rattle.ws_laws.proofs.Shapes.{tee_shape, map-there}
 use Rattle.ws_laws.proofs.Tables.{either, eq_numbers, unequal_numbers}
 use Rattle.ws_laws.proofs.TeeDoes.{TeeCauses, tee-causes}

@@ -17,7 +17,7 @@ use Rattle.ws_steps.specs.Tee.{Acts, causing, with_slots, reason_of, with_reason
 use Rattle.ws_steps.specs.Promises.{next_id, fresh}
 use Rattle.ws_steps.specs.Turns.{row, on_source}
 use Rattle.ws_laws.proofs.Lists.{Each}
-use Rattle.ws_laws.proofs.Rows.{row-streams}
+use Rattle.ws_laws.proofs.Apart.{row-streams}
 use Rattle.ws_laws.proofs.Tables.{either, is_same-refl, same_id, readable_acts, on_readable-same, on_readable-other, on_byte-look, on_writable-look}
 use Rattle.ws_tee_laws.proofs.Entering.{shut-stays}
 use Rattle.ws_tee_laws.proofs.Fronts.{enq, pend, NoEnq, pend-append, calm-pend}

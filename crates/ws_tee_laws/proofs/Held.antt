@@ -11,7 +11,8 @@ use Rattle.ws_steps.specs.declared.readable.ReadableState.TheVariants.{Errored}
 use Rattle.ws_steps.specs.declared.tee.{TeeOperation.{TeeOperation}}
 use Rattle.ws_steps.specs.declared.tee.TeeOperation.TheVariants as tees
 use Rattle.ws_steps.specs.declared.transform.TransformId.{TransformId}
-use Rattle.ws_steps.specs.Calls.{Begun, begin}
+use Rattle.ws_steps.specs.Begun.{Begun}
+use Rattle.ws_steps.specs.Calls.{begin}
 use Rattle.ws_steps.specs.Jobs.{job_effects}
 use Rattle.ws_steps.specs.Operations.{tee_operation}
 use Rattle.ws_steps.specs.Promises.{Table, job_of, enqueue_job, fresh, react, queue_micro, taken, first_job, next_job, after_first, after_next_job, watch}
@@ -24,7 +25,9 @@ use Rattle.ws_laws.proofs.Cases.{settle-cases, answer-cases, react-cases, follow
 use Rattle.ws_laws.proofs.EachCall.{each_call}
 use Rattle.ws_laws.proofs.Lists.{Each, each-append}
 use Rattle.ws_laws.proofs.PipeDoes.{PipeCauses}
-use Rattle.ws_laws.proofs.Rows.{Causes, Changes, row-causes, row-changes, row-tees}
+use Rattle.ws_laws.proofs.Rows.{Changes, row-changes}
+use Rattle.ws_laws.proofs.Apart.{row-tees}
+use Rattle.ws_laws.proofs.Causes.{Causes, row-causes}
 use Rattle.ws_laws.proofs.Shapes.{tee_shape, tee_shapes, map-there}
 use Rattle.ws_laws.proofs.Tables.{eq_numbers, unequal_numbers}
 use Rattle.ws_laws.proofs.TeeDoes.{TeeCauses}

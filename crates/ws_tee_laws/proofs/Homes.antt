@@ -25,7 +25,8 @@ use Rattle.ws_laws.proofs.ByteHands.{sum_of, Weighs, given_read, given_into, byt
 use Rattle.ws_laws.proofs.Halves.{call-among_tees}
 use Rattle.ws_laws.proofs.Lists.{Each, each-append, each-map}
 use Rattle.ws_laws.proofs.PipeDoes.{PipeCauses, pipe-causes}
-use Rattle.ws_laws.proofs.Rows.{Causes, row-causes, row-streams}
+use Rattle.ws_laws.proofs.Apart.{row-streams}
+use Rattle.ws_laws.proofs.Causes.{Causes, row-causes}
 use Rattle.ws_laws.proofs.Shapes.{TeeShape, tee_shape, tee_shapes, row-tee_shapes, map-there}
 use Rattle.ws_laws.proofs.Tables.{either, is_same-refl, same_id, eq_numbers, unequal_numbers, place_last, place_before, readable_acts, byte_acts, readable_there, byte_there, on_readable-same, on_byte-same, on_byte-other, on_source-other, on_writable-same, on_writable-other}
 use Rattle.ws_laws.proofs.TeeDoes.{TeeCauses, tee-causes}

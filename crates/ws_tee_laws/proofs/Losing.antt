@@ -8,7 +8,10 @@ use Rattle.ws_steps.specs.declared.effects.{Effect.{Effect}, Effect.TheVariants.
 use Rattle.ws_steps.specs.declared.promises.{Job.{Job}}
 use Rattle.ws_steps.specs.declared.readable.{ReadableOperation.TheVariants.{Enqueue}, ReadableState.TheVariants.{Errored}, SizeBy.TheVariants.{Count}}
 use Rattle.ws_steps.specs.declared.tee.{Half.{Half}, Half.TheVariants.{First, Second}, TeePhase.TheVariants.{Over}}
-use Rattle.ws_steps.specs.Calls.{Begun, begin, make_tee, add_port}
+use Rattle.ws_steps.specs.Begun.{Begun}
+use Rattle.ws_steps.specs.MakingCalls.{make_tee}
+use Rattle.ws_steps.specs.PipeCalls.{add_port}
+use Rattle.ws_steps.specs.Calls.{begin}
 use Rattle.ws_steps.specs.Jobs.{job_effects}
 use Rattle.ws_steps.specs.Promises.{next_id, fresh, next_job, after_next_job, watch}
 use Rattle.ws_steps.specs.Readable as readable
@@ -23,7 +26,7 @@ use Rattle.ws_laws.proofs.ByteHands.{sum_of}
 use Rattle.ws_laws.proofs.EachCall.{each_call}
 use Rattle.ws_laws.proofs.Halves.{get-stays, get-last, get-either}
 use Rattle.ws_laws.proofs.Lists.{Each, each-append}
-use Rattle.ws_laws.proofs.Rows.{row-tees}
+use Rattle.ws_laws.proofs.Apart.{row-tees}
 use Rattle.ws_laws.proofs.Shapes.{TeeShape, ReadableOf, branch_of, tee_shape, map-there, row-tee_shapes}
 use Rattle.ws_laws.proofs.Tables.{is_same-refl}
 use Rattle.ws_laws.proofs.Walker.{Stays}

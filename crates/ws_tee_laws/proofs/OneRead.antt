@@ -14,7 +14,8 @@ use Rattle.ws_steps.specs.declared.transform.TransformId.{TransformId}
 use Rattle.ws_steps.specs.declared.writable.WritableOperation.{WritableOperation}
 use Rattle.ws_steps.specs.Bytes as byte
 use Rattle.ws_steps.specs.Operations.{readable_operation, byte_readable_operation, byte_operation, writable_operation, tee_operation}
-use Rattle.ws_steps.specs.Calls.{Begun, begin}
+use Rattle.ws_steps.specs.Begun.{Begun}
+use Rattle.ws_steps.specs.Calls.{begin}
 use Rattle.ws_steps.specs.Jobs.{job_effects}
 use Rattle.ws_steps.specs.Promises.{next_id, fresh, after_next_job}
 use Rattle.ws_steps.specs.Writable as writable
@@ -30,7 +31,8 @@ use Rattle.ws_laws.proofs.EachCall.{each_call}
 use Rattle.ws_laws.proofs.ByteHands.{sum_of, sum-append, Weighs, given_read, given_into, byte_readable-hands, byte-hands}
 use Rattle.ws_laws.proofs.Lists.{Each, each-map}
 use Rattle.ws_laws.proofs.PipeDoes.{PipeCauses}
-use Rattle.ws_laws.proofs.Rows.{Causes, IsNoTee, row-causes, row-streams, row-tees}
+use Rattle.ws_laws.proofs.Apart.{IsNoTee, row-streams, row-tees}
+use Rattle.ws_laws.proofs.Causes.{Causes, row-causes}
 use Rattle.ws_laws.proofs.Tables.{either, readable_acts, byte_acts, writable_acts, readable_there, byte_there, writable_there, eq_numbers, unequal_numbers}
 use Rattle.ws_laws.proofs.TeeDoes.{TeeCauses, tee-causes}
 use Rattle.ws_laws.proofs.TransformDoes.{TransformCauses}

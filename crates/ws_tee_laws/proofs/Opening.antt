@@ -21,7 +21,7 @@ use Rattle.ws_steps.specs.Slots.{Slots, Stream, ReadableStream, ByteStream, Writ
 use Rattle.ws_steps.specs.Tee as tee
 use Rattle.ws_steps.specs.Turns.{row, on_source}
 use Rattle.ws_laws.proofs.Lists.{Each, each-append}
-use Rattle.ws_laws.proofs.Rows.{row-streams}
+use Rattle.ws_laws.proofs.Apart.{row-streams}
 use Rattle.ws_laws.proofs.Shapes.{StreamShape, ReadableOf, branch_of, stream_shape, stream_shapes, tee_shape}
 use Rattle.ws_laws.proofs.Tables.{is_same-refl, same_id, readable_acts, on_readable-same, on_source-other, on_byte-look, on_writable-look}
 use Rattle.ws_laws.proofs.Walker.{Stays}

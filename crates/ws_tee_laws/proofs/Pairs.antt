@@ -19,7 +19,7 @@ use Rattle.ws_steps.specs.Tee.{Acts, pair, pair_of, reason_of, with_reason, is_w
 use Rattle.ws_steps.specs.TeeLaws.{EachPairStays}
 use Rattle.ws_steps.specs.Turns.{row}
 use Rattle.ws_laws.proofs.Begin.{Makes, begin-makes}
-use Rattle.ws_laws.proofs.Rows.{row-tees}
+use Rattle.ws_laws.proofs.Apart.{row-tees}
 use Rattle.ws_laws.proofs.Tables.{either}
 use Rattle.ws_laws.proofs.Walker.{Stays, run-stays}
 

@@ -17,7 +17,8 @@ use Rattle.ws_steps.specs.Tee.{Acts, reason_of}
 use Rattle.ws_steps.specs.Turns.{row}
 use Rattle.ws_laws.proofs.Lists.{Each, each-append}
 use Rattle.ws_laws.proofs.PipeDoes.{PipeCauses}
-use Rattle.ws_laws.proofs.Rows.{Causes, IsNoTee, row-causes, row-tees}
+use Rattle.ws_laws.proofs.Apart.{IsNoTee, row-tees}
+use Rattle.ws_laws.proofs.Causes.{Causes, row-causes}
 use Rattle.ws_laws.proofs.Shapes.{ReadableOf, branch_of, stream_shape, tee_shape, map-there}
 use Rattle.ws_laws.proofs.Tables.{same_id, eq_numbers, unequal_numbers}
 use Rattle.ws_laws.proofs.TeeDoes.{TeeCauses, tee-causes}

@@ -7,7 +7,10 @@ use Rattle.ws_steps.specs.declared.effects.{Effect.{Effect}, Effect.TheVariants.
 use Rattle.ws_steps.specs.declared.readable.ReadableOperation.TheVariants.{Enqueue}
 use Rattle.ws_steps.specs.declared.tee.{Half.{Half}, Half.TheVariants.{First, Second}, TeeOperation.{TeeOperation}}
 use Rattle.ws_steps.specs.declared.tee.TeeOperation.TheVariants as ops
-use Rattle.ws_steps.specs.Calls.{Begun, begin, make_tee, add_port}
+use Rattle.ws_steps.specs.Begun.{Begun}
+use Rattle.ws_steps.specs.MakingCalls.{make_tee}
+use Rattle.ws_steps.specs.PipeCalls.{add_port}
+use Rattle.ws_steps.specs.Calls.{begin}
 use Rattle.ws_steps.specs.Histories.{is_same, in_step, over}
 use Rattle.ws_steps.specs.Promises.{next_id, fresh, after_next_job}
 use Rattle.ws_steps.specs.Jobs.{job_effects}
@@ -24,7 +27,7 @@ use Rattle.ws_laws.proofs.Begin.{begin-makes}
 use Rattle.ws_laws.proofs.EachCall.{each_call}
 use Rattle.ws_laws.proofs.Halves.{get-stays, get-either}
 use Rattle.ws_laws.proofs.Lists.{Each}
-use Rattle.ws_laws.proofs.Rows.{IsNoTee, row-tees}
+use Rattle.ws_laws.proofs.Apart.{IsNoTee, row-tees}
 use Rattle.ws_laws.proofs.Shapes.{StreamShape, ReadableOf, branch_of, stream_shape, stream_shapes, tee_shape, row-stream_shapes, row-tee_shapes}
 use Rattle.ws_laws.proofs.Tables.{is_same-refl, same_id, eq_numbers, unequal_numbers}
 use Rattle.ws_laws.proofs.TeeDoes.{tee-causes}

@@ -15,7 +15,7 @@ use Rattle.ws_steps.specs.Readable as readable
 use Rattle.ws_steps.specs.Readable.{Acts, is_readable, can_close_or_enqueue, close_all, error_all, waiting, call_pull_if_needed, accept_for, accept, controller_enqueue, stream_close, stream_error, close_if_empty, controller_close, controller_error, after_take, pull_from, pull_steps, read_by, default_reader_read, reader_generic_initialize, disturb, cancel_readable_by, cancel_if_readable, start_settled, pull_settled, pull_ended, cancel_steps, cancel_by, stream_cancel, release_by, reader_release}
 use Rattle.ws_steps.specs.Slots.{Slots, Stream, ReadableStream, Done, nothing, readable_at, has_readable, has_byte, as_readable, put_readable, on_readable, on_byte}
 use Rattle.ws_steps.specs.Turns.{row, on_source}
-use Rattle.ws_laws.proofs.Rows.{row-streams}
+use Rattle.ws_laws.proofs.Apart.{row-streams}
 use Rattle.ws_laws.proofs.Tables.{either, is_same-refl, same_id, readable_acts, on_readable-same, on_readable-other, on_byte-look, on_writable-look}
 
 -- what each operation keeps of a readable stream, each effect keeps

@@ -20,7 +20,7 @@ use Rattle.ws_steps.specs.WritableHistory.{Writes, no_writes, first_chunk, opera
 use Rattle.ws_laws.proofs.Halves.{Halved}
 use Rattle.ws_laws.proofs.Lists.{Each}
 use Rattle.ws_laws.proofs.PipeDoes.{PipeCauses}
-use Rattle.ws_laws.proofs.Rows.{ChunkCauses, EndCauses, ErrorCauses, SignalCauses, row-causes}
+use Rattle.ws_laws.proofs.Causes.{ChunkCauses, EndCauses, ErrorCauses, SignalCauses, row-causes}
 use Rattle.ws_laws.proofs.Shapes.{StreamShape, WritableOf, TransformShape, stream_shapes, transform_shapes, owner-told}
 use Rattle.ws_laws.proofs.Tables.{either, same_id, is_same-refl, eq_numbers, no_writable_there, writable_acts}
 use Rattle.ws_laws.proofs.TransformDoes.{TransformCauses}

@@ -7,7 +7,8 @@ use Rattle.ws_steps.specs.declared.effects.Effect.TheVariants.{Transform as OnTr
 use Rattle.ws_steps.specs.declared.promises.{Job.{Job}}
 use Rattle.ws_steps.specs.declared.transform.{TransformId.{TransformId}}
 use Rattle.ws_steps.specs.declared.transform.TransformOperation.TheVariants as names
-use Rattle.ws_steps.specs.Calls.{Begun, begin}
+use Rattle.ws_steps.specs.Begun.{Begun}
+use Rattle.ws_steps.specs.Calls.{begin}
 use Rattle.ws_steps.specs.Jobs.{job_effects}
 use Rattle.ws_steps.specs.Operations.{transform_operation}
 use Rattle.ws_steps.specs.Promises.{next_id, next_job, after_next_job, watch}

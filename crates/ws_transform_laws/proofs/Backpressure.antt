@@ -16,7 +16,7 @@ use Rattle.ws_laws.proofs.Tables.{either, writable_acts, eq_numbers, unequal_num
 use Rattle.ws_transform_laws.specs.TransformHistory.{is_same_transform}
 use Rattle.ws_transform_laws.proofs.Changing.{place-same, pipe-transforms, signal-transforms, tee-transforms}
 use Rattle.ws_steps.specs.declared.effects.Effect.TheVariants.{Byte, CloseStepsWith}
-use Rattle.ws_laws.proofs.Rows.{source-leaves, byte-leaves}
+use Rattle.ws_laws.proofs.Apart.{source-leaves, byte-leaves}
 use Rattle.ws_transform_laws.proofs.Changing.{port-transforms}
 
 -- an operation that may change the backpressure

@@ -1,5 +1,5 @@
 -- Each chunk with which a transform algorithm of the host's is performed is on its way to the host.
-use Rattle.ws_laws.proofs.Rows.{row-causes}
+use Rattle.ws_laws.proofs.Causes.{row-causes}
 use Rattle.std.proofs.Common.{◌≡◌, ℕ, Bool, true, false, nat_eq, if◌then◌else◌, List, [], ◌∷◌, ◌++◌, Option, Some, None, slice_get, refl, sym, ap, ◌∙◌, arith, append_assoc}
 use Rattle.ws_value.specs.declared.ids.{PromiseId.{PromiseId}, StreamId.{StreamId}}
 use Rattle.ws_value.specs.declared.value.Value.{Value}

@@ -21,7 +21,7 @@ use Rattle.ws_steps.specs.Turns.{row, call_host}
 use Rattle.ws_steps.proofs.PromiseLaws.{slice_get-set_other}
 use Rattle.ws_laws.proofs.Tables.{either, writable_acts, eq_numbers, unequal_numbers}
 use Rattle.ws_steps.specs.declared.effects.Effect.TheVariants.{Byte, CloseStepsWith}
-use Rattle.ws_laws.proofs.Rows.{source-leaves, byte-leaves}
+use Rattle.ws_laws.proofs.Apart.{source-leaves, byte-leaves}
 use Rattle.ws_value.specs.declared.ids.TeeId.{TeeId}
 use Rattle.ws_value.specs.declared.ids.PortId.{PortId}
 use Rattle.ws_steps.specs.declared.tee.TeeOperation.{TeeOperation}

@@ -15,7 +15,8 @@ use Rattle.ws_steps.specs.declared.transform.TransformOperation.TheVariants as n
 use Rattle.ws_steps.specs.declared.writable.{WritableOperation.TheVariants.{HandOn}, WriteRecord.{WriteRecord}, WriteRecord.TheVariants.{Chunk, InFlight, CloseMark}}
 use Rattle.ws_steps.specs.declared.writable.WritableState.{WritableState}
 use Rattle.ws_steps.specs.declared.writable.WritableState.TheVariants.{Writable, Erroring, Errored, Closed}
-use Rattle.ws_steps.specs.Calls.{Begun, begin}
+use Rattle.ws_steps.specs.Begun.{Begun}
+use Rattle.ws_steps.specs.Calls.{begin}
 use Rattle.ws_steps.specs.Jobs.{job_effects, resolved}
 use Rattle.ws_steps.specs.Operations.{writable_operation, transform_operation}
 use Rattle.ws_steps.specs.Queues.{first_value}
@@ -26,7 +27,7 @@ use Rattle.ws_steps.specs.Writable as writable
 use Rattle.ws_laws.proofs.EachCall.{each_call}
 use Rattle.ws_laws.proofs.Lists.{Each, each-append}
 use Rattle.ws_laws.proofs.PipeDoes.{PipeCauses}
-use Rattle.ws_laws.proofs.Rows.{ChunkCauses, EndCauses, ErrorCauses, SignalCauses, Causes, row-causes}
+use Rattle.ws_laws.proofs.Causes.{ChunkCauses, EndCauses, ErrorCauses, SignalCauses, Causes, row-causes}
 use Rattle.ws_laws.proofs.Tables.{either, eq_numbers, writable_acts}
 use Rattle.ws_laws.proofs.TransformDoes.{TransformCauses}
 use Rattle.ws_transform_laws.specs.TransformHistory.{is_same_transform, is_changed}

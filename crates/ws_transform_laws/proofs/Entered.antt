@@ -9,8 +9,10 @@ use Rattle.ws_steps.specs.declared.promises.Job.{Job}
 use Rattle.ws_steps.specs.declared.readable.ReadableOperation.TheVariants.{Enqueue}
 use Rattle.ws_steps.specs.declared.transform.{Kind.TheVariants.{Host as HostKind}, TransformId.{TransformId}}
 use Rattle.ws_steps.specs.declared.transform.TransformOperation.TheVariants as names
-use Rattle.ws_steps.specs.Calls as calls
-use Rattle.ws_steps.specs.Calls.{Begun, begin, unsupported}
+use Rattle.ws_steps.specs.Begun as replying
+use Rattle.ws_steps.specs.ControllerCalls as controller_calls
+use Rattle.ws_steps.specs.Begun.{Begun, unsupported}
+use Rattle.ws_steps.specs.Calls.{begin}
 use Rattle.ws_steps.specs.Histories.{is_same, along}
 use Rattle.ws_steps.specs.Jobs.{job_effects, job_begun, begin_job}
 use Rattle.ws_steps.specs.Promises.{next_job}
@@ -100,42 +102,42 @@ module _ (t : TransformId) (r : StreamId) where
   Starts b base = Enter t r b.done.slots b.done.caused × (base ≡ entering t r b.done.caused)
 
   by-owner : (j : StreamId) (v : Value) (s : Slots) (owner : Owner) → has_readable j s ≡ true → (readable_at j s).owner ≡ owner → Halved s → Reads t r s
-      → Starts (calls.enqueue_by v j s owner) (accepted_by r (EnqueueCall j v) (calls.enqueue_by v j s owner).reply)
+      → Starts (controller_calls.enqueue_by v j s owner) (accepted_by r (EnqueueCall j v) (controller_calls.enqueue_by v j s owner).reply)
   by-owner j v s Host there is halved h =
-      either (λ (b : Begun). Starts b (accepted_by r (EnqueueCall j v) b.reply)) (can_close_or_enqueue (readable_at j s)) (calls.does (OnReadable j (Enqueue v) ∷ []) s) (calls.throws_type_error s)
+      either (λ (b : Begun). Starts b (accepted_by r (EnqueueCall j v) b.reply)) (can_close_or_enqueue (readable_at j s)) (replying.does (OnReadable j (Enqueue v) ∷ []) s) (replying.throws_type_error s)
       (λ can. ((λ same. rw (same_id r j same) can, tt), sym (append-nil (if is_same r j then v ∷ [] else [])))) (λ cannot. (tt, refl))
   by-owner j v s (HalfOf u) there is halved h =
       let at : slice_get (stream_shapes s) j.0 ≡ Some (ReadableOf (HalfOf u)) =
       map-there stream_shape s.streams j.0 (ReadableStream (readable_at j s)) (readable_there (slice_get s.streams j.0) there) ∙ ap (λ (o : Owner). Some (ReadableOf o)) is in
       let same = same-half s j u halved h at in
-      either (λ (b : Begun). Starts b (accepted_by r (EnqueueCall j v) b.reply)) (can_close_or_enqueue (readable_at j s)) (calls.does (OnTransform u (names.Enqueue v) ∷ []) s) (calls.throws_type_error s)
+      either (λ (b : Begun). Starts b (accepted_by r (EnqueueCall j v) b.reply)) (can_close_or_enqueue (readable_at j s)) (replying.does (OnTransform u (names.Enqueue v) ∷ []) s) (replying.throws_type_error s)
       (λ can. ((λ here. rw (same_id r j (sym same ∙ here)) can, tt), rw same (sym (append-nil (if is_same r j then v ∷ [] else []))))) (λ cannot. (tt, refl))
   by-owner j v s (BranchOf u half) there is halved h = (tt, refl)
   by-owner j v s (EndOf c) there is halved h = (tt, refl)
 
   -- a byte stream is another
-  by-bytes : (j : StreamId) (v : Value) (s : Slots) → is_same r j ≡ false → Starts (calls.enqueue_bytes j s v) (accepted_by r (EnqueueCall j v) (calls.enqueue_bytes j s v).reply)
+  by-bytes : (j : StreamId) (v : Value) (s : Slots) → is_same r j ≡ false → Starts (controller_calls.enqueue_bytes j s v) (accepted_by r (EnqueueCall j v) (controller_calls.enqueue_bytes j s v).reply)
   by-bytes j (PlainValue v) s n = (tt, refl)
   by-bytes j (Bytes b) s n =
-      either (λ (x : Begun). Starts x (accepted_by r (EnqueueCall j (Bytes b)) x.reply)) (not (is_empty b) && byte.can_take (byte_at j s)) (calls.does (Byte j (EnqueueBytes b) ∷ []) s) (calls.throws_type_error s)
+      either (λ (x : Begun). Starts x (accepted_by r (EnqueueCall j (Bytes b)) x.reply)) (not (is_empty b) && byte.can_take (byte_at j s)) (replying.does (Byte j (EnqueueBytes b) ∷ []) s) (replying.throws_type_error s)
       (λ can. ((tt, tt), rw n refl)) (λ cannot. (tt, refl))
 
-  bytes-were : (j : StreamId) (v : Value) (s : Slots) → Reads t r (calls.enqueue_bytes j s v).done.slots → Reads t r s
+  bytes-were : (j : StreamId) (v : Value) (s : Slots) → Reads t r (controller_calls.enqueue_bytes j s v).done.slots → Reads t r s
   bytes-were j (PlainValue v) s k = k
   bytes-were j (Bytes b) s k =
-      either (λ (x : Begun). Reads t r x.done.slots → Reads t r s) (not (is_empty b) && byte.can_take (byte_at j s)) (calls.does (Byte j (EnqueueBytes b) ∷ []) s) (calls.throws_type_error s) (λ e x. x) (λ e x. x) k
+      either (λ (x : Begun). Reads t r x.done.slots → Reads t r s) (not (is_empty b) && byte.can_take (byte_at j s)) (replying.does (Byte j (EnqueueBytes b) ∷ []) s) (replying.throws_type_error s) (λ e x. x) (λ e x. x) k
 
   call-starts : (c : Call) (s : Slots) → Halved s → Reads t r (begin c s).done.slots → Starts (begin c s) (accepted_by r c (begin c s).reply)
   unfolding begin
   call-starts (EnqueueCall j v) s halved h =
-      either (λ (b : Begun). Reads t r b.done.slots → Starts b (accepted_by r (EnqueueCall j v) b.reply)) (has_byte j s) (calls.enqueue_bytes j s v) (calls.for_readable j (calls.enqueue v j) s)
+      either (λ (b : Begun). Reads t r b.done.slots → Starts b (accepted_by r (EnqueueCall j v) b.reply)) (has_byte j s) (controller_calls.enqueue_bytes j s v) (replying.for_readable j (controller_calls.enqueue v j) s)
       (λ is k. by-bytes j v s (not-bytes t r s j halved (bytes-were j v s k) is))
-      (λ isnt. either (λ (b : Begun). Reads t r b.done.slots → Starts b (accepted_by r (EnqueueCall j v) b.reply)) (has_readable j s) (calls.enqueue v j s) (unsupported s)
+      (λ isnt. either (λ (b : Begun). Reads t r b.done.slots → Starts b (accepted_by r (EnqueueCall j v) b.reply)) (has_readable j s) (controller_calls.enqueue v j s) (unsupported s)
       (λ there k. by-owner j v s (readable_at j s).owner there refl halved (was (readable_at j s).owner k)) (λ absent k. (tt, refl))) h
     where
-      was : (owner : Owner) → Reads t r (calls.enqueue_by v j s owner).done.slots → Reads t r s
-      was Host k = either (λ (b : Begun). Reads t r b.done.slots → Reads t r s) (can_close_or_enqueue (readable_at j s)) (calls.does (OnReadable j (Enqueue v) ∷ []) s) (calls.throws_type_error s) (λ e x. x) (λ e x. x) k
-      was (HalfOf u) k = either (λ (b : Begun). Reads t r b.done.slots → Reads t r s) (can_close_or_enqueue (readable_at j s)) (calls.does (OnTransform u (names.Enqueue v) ∷ []) s) (calls.throws_type_error s) (λ e x. x) (λ e x. x) k
+      was : (owner : Owner) → Reads t r (controller_calls.enqueue_by v j s owner).done.slots → Reads t r s
+      was Host k = either (λ (b : Begun). Reads t r b.done.slots → Reads t r s) (can_close_or_enqueue (readable_at j s)) (replying.does (OnReadable j (Enqueue v) ∷ []) s) (replying.throws_type_error s) (λ e x. x) (λ e x. x) k
+      was (HalfOf u) k = either (λ (b : Begun). Reads t r b.done.slots → Reads t r s) (can_close_or_enqueue (readable_at j s)) (replying.does (OnTransform u (names.Enqueue v) ∷ []) s) (replying.throws_type_error s) (λ e x. x) (λ e x. x) k
       was (BranchOf u half) k = k
       was (EndOf c) k = k
   call-starts c s halved h =

@@ -19,7 +19,7 @@ use Rattle.ws_steps.specs.Turns.{row}
 use Rattle.ws_laws.proofs.Halves.{Halved}
 use Rattle.ws_laws.proofs.Lists.{Each, each-append}
 use Rattle.ws_laws.proofs.PipeDoes.{PipeCauses}
-use Rattle.ws_laws.proofs.Rows.{Causes, row-causes}
+use Rattle.ws_laws.proofs.Causes.{Causes, row-causes}
 use Rattle.ws_laws.proofs.Shapes.{StreamShape, ReadableOf, TransformShape, stream_shapes, transform_shapes, transform_shape, map-there}
 use Rattle.ws_laws.proofs.Tables.{either, same_id, is_same-refl, eq_numbers}
 use Rattle.ws_transform_laws.specs.TransformHistory.{is_same_transform, enqueues, effect_enqueued}

@@ -23,7 +23,7 @@ use Rattle.ws_laws.proofs.Ended.{Ended, ended-stays, run-ended}
 use Rattle.ws_laws.proofs.Halves.{Halved, halved-stays, halved-empty, run-halved, step-shapes, step-among}
 use Rattle.ws_laws.proofs.Lists.{Each, each-append}
 use Rattle.ws_laws.proofs.PipeDoes.{PipeCauses}
-use Rattle.ws_laws.proofs.Rows.{Causes, row-causes}
+use Rattle.ws_laws.proofs.Causes.{Causes, row-causes}
 use Rattle.ws_laws.proofs.Shapes.{TransformShape, transform_shapes, transform_shape, map-there, row-transform_shapes}
 use Rattle.ws_laws.proofs.Walker.{IsHistory, performed-goes}
 use Rattle.ws_transform_laws.specs.TransformHistory.{is_same_transform, effect_closings, step_closings, is_flushed}

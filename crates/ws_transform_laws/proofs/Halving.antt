@@ -10,7 +10,8 @@ use Rattle.ws_steps.specs.declared.promises.Job.TheVariants.{Reaction as Reactio
 use Rattle.ws_steps.specs.declared.promises.Step.TheVariants.{WritableWrite, TransformChanged}
 use Rattle.ws_steps.specs.declared.transform.{Taker.{Taker}, TransformId.{TransformId}}
 use Rattle.ws_steps.specs.declared.writable.{WritableOperation.{WritableOperation}, WritableOperation.TheVariants.{HandOn, WriteSettled}}
-use Rattle.ws_steps.specs.Calls.{begin, add_stream}
+use Rattle.ws_steps.specs.MakingCalls.{add_stream}
+use Rattle.ws_steps.specs.Calls.{begin}
 use Rattle.ws_steps.specs.Histories.{is_same}
 use Rattle.ws_steps.specs.Jobs.{job_effects}
 use Rattle.ws_steps.specs.Operations.{writable_operation}

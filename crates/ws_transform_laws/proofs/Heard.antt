@@ -8,8 +8,11 @@ use Rattle.ws_steps.specs.declared.effects.Effect.TheVariants.{Transform as OnTr
 use Rattle.ws_steps.specs.declared.readable.SizeBy.TheVariants.{Count}
 use Rattle.ws_steps.specs.declared.transform.{Kind.{Kind}, TransformId.{TransformId}}
 use Rattle.ws_steps.specs.declared.transform.TransformOperation.TheVariants as names
-use Rattle.ws_steps.specs.Calls as calls
-use Rattle.ws_steps.specs.Calls.{Begun, begin, add_stream}
+use Rattle.ws_steps.specs.MakingCalls as making_calls
+use Rattle.ws_steps.specs.PipeCalls as pipe_calls
+use Rattle.ws_steps.specs.Begun.{Begun}
+use Rattle.ws_steps.specs.MakingCalls.{add_stream}
+use Rattle.ws_steps.specs.Calls.{begin}
 use Rattle.ws_steps.specs.Histories.{is_same, along, in_step, over, taken_event, taken_in_step, run_events}
 use Rattle.ws_steps.specs.Jobs.{job_effects}
 use Rattle.ws_steps.specs.Promises.{next_id, after_next_job}
@@ -148,7 +151,7 @@ module _ (t : TransformId) (r : StreamId) where
   added-grown : (s : Slots) (y : Stream) → Grown s (add_stream y s)
   added-grown s y = record { hosted = λ m. inl m; transforms = λ none. none; streams = λ none. none-before stream_shape s.streams (y ∷ []) r.0 none }
 
-  made-grown : (s : Slots) (kind : Kind) (m n : ℕ) (start : StartBy) → Grown s (calls.make_transform kind m n start (record { 0 = length s.streams }) (record { 0 = length s.streams + 1 }) s).done.slots
+  made-grown : (s : Slots) (kind : Kind) (m n : ℕ) (start : StartBy) → Grown s (making_calls.make_transform kind m n start (record { 0 = length s.streams }) (record { 0 = length s.streams + 1 }) s).done.slots
   made-grown s kind m n start =
       let me : TransformId = record { 0 = length s.transforms } in
       let w : Stream = WritableStream (writable.set_up (HalfOf me) m Count) in
@@ -169,7 +172,7 @@ module _ (t : TransformId) (r : StreamId) where
         streams = λ none. none-before stream_shape s.streams (w ∷ []) r.0 (none-before stream_shape (s.streams ++ w ∷ []) (y ∷ []) r.0 none);
       }
 
-  teed-grown : (s : Slots) (j : StreamId) → Grown s (calls.make_tee j (record { 0 = length s.streams }) (record { 0 = length s.streams + 1 }) s).done.slots
+  teed-grown : (s : Slots) (j : StreamId) → Grown s (making_calls.make_tee j (record { 0 = length s.streams }) (record { 0 = length s.streams + 1 }) s).done.slots
   teed-grown s j =
       let me : TeeId = record { 0 = length s.tees } in
       let first : Stream = ReadableStream (readable.set_up (BranchOf me First) 1 Count) in
@@ -180,9 +183,9 @@ module _ (t : TransformId) (r : StreamId) where
         streams = λ none. none-before stream_shape s.streams (first ∷ []) r.0 (none-before stream_shape (s.streams ++ first ∷ []) (second ∷ []) r.0 none);
       }
 
-  ported-grown : (s : Slots) (side : Side) (i : StreamId) → Grown s (calls.add_port i s side)
-  ported-grown s ReadableSide i = record { hosted = λ m. inl m; transforms = λ none. none; streams = λ none. none-before stream_shape s.streams (calls.end_of (record { 0 = length s.ports }) ReadableSide ∷ []) r.0 none }
-  ported-grown s WritableSide i = record { hosted = λ m. inl m; transforms = λ none. none; streams = λ none. none-before stream_shape s.streams (calls.end_of (record { 0 = length s.ports }) WritableSide ∷ []) r.0 none }
+  ported-grown : (s : Slots) (side : Side) (i : StreamId) → Grown s (pipe_calls.add_port i s side)
+  ported-grown s ReadableSide i = record { hosted = λ m. inl m; transforms = λ none. none; streams = λ none. none-before stream_shape s.streams (pipe_calls.end_of (record { 0 = length s.ports }) ReadableSide ∷ []) r.0 none }
+  ported-grown s WritableSide i = record { hosted = λ m. inl m; transforms = λ none. none; streams = λ none. none-before stream_shape s.streams (pipe_calls.end_of (record { 0 = length s.ports }) WritableSide ∷ []) r.0 none }
 
   grown-on : (s a z : Slots) → z.streams ≡ a.streams → z.transforms ≡ a.transforms → Grown s a → Grown s z
   grown-on s a z e f g = record {
@@ -226,8 +229,8 @@ module _ (t : TransformId) (r : StreamId) where
     pipe = λ source dest prevent signal e f l m. same-grown s _ refl refl;
     make_signal = same-grown s _ refl refl;
     open_end = λ side. ported-grown s side (record { 0 = length s.streams });
-    send_readable = λ j there free. grown-on s (calls.add_port (record { 0 = length s.streams }) s WritableSide) _ refl refl (ported-grown s WritableSide (record { 0 = length s.streams }));
-    send_writable = λ j there free. grown-on s (calls.add_port (record { 0 = length s.streams }) s ReadableSide) _ refl refl (ported-grown s ReadableSide (record { 0 = length s.streams }));
+    send_readable = λ j there free. grown-on s (pipe_calls.add_port (record { 0 = length s.streams }) s WritableSide) _ refl refl (ported-grown s WritableSide (record { 0 = length s.streams }));
+    send_writable = λ j there free. grown-on s (pipe_calls.add_port (record { 0 = length s.streams }) s ReadableSide) _ refl refl (ported-grown s ReadableSide (record { 0 = length s.streams }));
     deliver = λ p m e is. same-grown s s refl refl;
     trigger = λ a reason. same-grown s s refl refl;
     settle = λ a answer p e. same-grown s _ refl refl;

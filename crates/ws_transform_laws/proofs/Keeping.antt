@@ -18,7 +18,7 @@ use Rattle.ws_transform_laws.proofs.Changing.{place-same, pipe-transforms, signa
 use Rattle.ws_value.specs.declared.ids.PromiseId.{PromiseId}
 use Rattle.ws_transform_laws.proofs.Backpressure.{IsTurning, IsTurned}
 use Rattle.ws_steps.specs.declared.effects.Effect.TheVariants.{Byte, CloseStepsWith}
-use Rattle.ws_laws.proofs.Rows.{source-leaves, byte-leaves}
+use Rattle.ws_laws.proofs.Apart.{source-leaves, byte-leaves}
 use Rattle.ws_transform_laws.proofs.Changing.{port-transforms}
 
 operation-keeps : (me : TransformId) (halves : Halves) (operation : TransformOperation) (a : Acts) → (IsTurning operation → ⊥) → (transform_operation me halves operation a).slots.change ≡ a.slots.change

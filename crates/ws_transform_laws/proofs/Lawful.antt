@@ -7,7 +7,8 @@ use Rattle.ws_steps.specs.declared.effects.{Effect.{Effect}, Effect.TheVariants.
 use Rattle.ws_steps.specs.declared.promises.Job.{Job}
 use Rattle.ws_steps.specs.declared.transform.TransformId.{TransformId}
 use Rattle.ws_steps.specs.declared.writable.{WritableOperation.{WritableOperation}, WritableOperation.TheVariants.{WriteSettled, CloseSettled}, WritableState.TheVariants.{Writable as IsWritable}}
-use Rattle.ws_steps.specs.Calls.{begin, add_stream}
+use Rattle.ws_steps.specs.MakingCalls.{add_stream}
+use Rattle.ws_steps.specs.Calls.{begin}
 use Rattle.ws_steps.specs.Histories.{is_same}
 use Rattle.ws_steps.specs.Jobs.{job_effects}
 use Rattle.ws_steps.specs.Laws.{IsLawfulWritable}

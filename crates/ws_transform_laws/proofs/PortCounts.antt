@@ -37,7 +37,7 @@ use Rattle.ws_laws.proofs.Lists.{Each, each-append, each-map}
 use Rattle.ws_laws.proofs.PipeDoes.{PipeCauses}
 use Rattle.ws_laws.proofs.PortDoes.{PortCauses}
 use Rattle.ws_laws.proofs.ReadableDoes.{readable-does}
-use Rattle.ws_laws.proofs.Rows.{ReadableCauses, ByteCauses, ChunkCauses, EndCauses, ErrorCauses, SignalCauses, of-causes, row-causes}
+use Rattle.ws_laws.proofs.Causes.{ReadableCauses, ByteCauses, ChunkCauses, EndCauses, ErrorCauses, SignalCauses, of-causes, row-causes}
 use Rattle.ws_laws.proofs.Shapes.{StreamShape, ReadableOf, BytesOf, WritableOf, stream_shape, stream_shapes, map-there}
 use Rattle.ws_laws.proofs.Tables.{either, eq_numbers, same_id, is_same-refl, readable_acts, byte_acts, writable_acts, readable_there, byte_there}
 use Rattle.ws_laws.proofs.TeeDoes.{TeeCauses}

@@ -27,8 +27,9 @@ use Rattle.ws_value.specs.declared.value.{Value.{Value}}
 use Rattle.ws_writable_laws.proofs.Shape.{all, all-append, leads_to}
 use Rattle.ws_steps.specs.declared.calls.Call.{Call}
 use Rattle.ws_steps.specs.declared.promises.{Job.{Job}}
-use Rattle.ws_steps.specs.Calls.{Begun, begin}
-use Rattle.ws_steps.specs.Calls as calls
+use Rattle.ws_steps.specs.Begun.{Begun}
+use Rattle.ws_steps.specs.Calls.{begin}
+use Rattle.ws_steps.specs.PipeCalls as pipe_calls
 use Rattle.ws_steps.specs.Jobs.{job_effects}
 use Rattle.ws_steps.specs.Promises.{next_job, after_next_job, watch}
 use Rattle.ws_steps.specs.Run.{older, after_event}
@@ -38,7 +39,7 @@ use Rattle.ws_steps.specs.WritableHistory.{Writes, no_writes, writes_then, effec
 use Rattle.ws_laws.proofs.Begin.{begin-makes}
 use Rattle.ws_laws.proofs.EachCall.{each_call}
 use Rattle.ws_laws.proofs.Halves.{get-stays}
-use Rattle.ws_laws.proofs.Rows.{row-ports}
+use Rattle.ws_laws.proofs.Apart.{row-ports}
 use Rattle.ws_laws.proofs.Shapes.{row-owner}
 use Rattle.ws_laws.proofs.Ended.{row-port_shapes}
 use Rattle.ws_laws.proofs.Walker.{GoesUntold, RestsUntold}
@@ -253,7 +254,7 @@ module _ (i : StreamId) (c : PortId) where
   abbrev PortsNow : Slots → Slots → Type 0
   PortsNow s z = (z.ports ≡ s.ports) ⊎ ((x : cross.Slots) × ((z.ports ≡ s.ports ++ x ∷ []) × (x.live ≡ true)))
 
-  port-added : (side : Side) (j : StreamId) (s : Slots) → PortsNow s (calls.add_port j s side)
+  port-added : (side : Side) (j : StreamId) (s : Slots) → PortsNow s (pipe_calls.add_port j s side)
   port-added ReadableSide j s = inr (_, (refl, refl))
   port-added WritableSide j s = inr (_, (refl, refl))
 

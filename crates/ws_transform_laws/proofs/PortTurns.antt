@@ -16,7 +16,7 @@ use Rattle.ws_steps.specs.Slots as realm
 use Rattle.ws_steps.specs.Slots.{found, on_port_at, clones_at}
 use Rattle.ws_steps.specs.Turns.{row}
 use Rattle.ws_steps.proofs.PromiseLaws.{slice_get-set_other}
-use Rattle.ws_laws.proofs.Rows.{row-ports}
+use Rattle.ws_laws.proofs.Apart.{row-ports}
 use Rattle.ws_laws.proofs.Tables.{either, eq_numbers, unequal_numbers}
 
 pub post-slots : (me : PortId) (m : Message) (a : Acts) → (post me m a).slots ≡ a.slots

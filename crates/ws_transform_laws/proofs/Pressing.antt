@@ -19,7 +19,7 @@ use Rattle.ws_laws.proofs.Halves.{Halved}
 use Rattle.ws_laws.proofs.Lists.{Each, each-append, each-map}
 use Rattle.ws_laws.proofs.PipeDoes.{PipeCauses}
 use Rattle.ws_laws.proofs.ReadableDoes.{OfReadable, readable-does}
-use Rattle.ws_laws.proofs.Rows.{Causes, row-causes}
+use Rattle.ws_laws.proofs.Causes.{Causes, row-causes}
 use Rattle.ws_laws.proofs.Tables.{either, is_same-refl, same_id, eq_numbers, readable_acts, on_readable-same}
 use Rattle.ws_writable_laws.proofs.Shape.{one_if}
 use Rattle.ws_transform_laws.specs.TransformHistory.{is_same_transform}

@@ -29,7 +29,7 @@ use Rattle.ws_laws.proofs.Begin.{IsFirst, Enqueues, Never, begin-first, job-firs
 use Rattle.ws_laws.proofs.Halves.{Halved, halved-stays}
 use Rattle.ws_laws.proofs.Lists.{Each, each-map}
 use Rattle.ws_laws.proofs.PipeDoes.{PipeCauses}
-use Rattle.ws_laws.proofs.Rows.{ChunkCauses, EndCauses, ErrorCauses, SignalCauses, row-causes}
+use Rattle.ws_laws.proofs.Causes.{ChunkCauses, EndCauses, ErrorCauses, SignalCauses, row-causes}
 use Rattle.ws_laws.proofs.Shapes.{ReadableOf, WritableOf, TransformShape, stream_shapes, transform_shapes, transform_shape, map-there, row-stream_shapes, row-transform_shapes}
 use Rattle.ws_laws.proofs.Tables.{either, writable_acts}
 use Rattle.ws_laws.proofs.Walker.{Stays}

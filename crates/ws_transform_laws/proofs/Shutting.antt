@@ -20,7 +20,8 @@ use Rattle.ws_steps.specs.Turns.{row}
 use Rattle.ws_laws.proofs.Halves.{Halved}
 use Rattle.ws_laws.proofs.Lists.{Each}
 use Rattle.ws_laws.proofs.PipeDoes.{PipeCauses}
-use Rattle.ws_laws.proofs.Rows.{Causes, row-causes, row-streams}
+use Rattle.ws_laws.proofs.Apart.{row-streams}
+use Rattle.ws_laws.proofs.Causes.{Causes, row-causes}
 use Rattle.ws_laws.proofs.Tables.{either, is_same-refl, same_id, readable_acts, on_readable-same, no_readable_there, on_writable-readable}
 use Rattle.ws_laws.proofs.Weights.{weigh-fresh, weigh-settle, weigh-answer, weigh-micro}
 use Rattle.ws_writable_laws.proofs.Agenda.{weight-tell, weight-gift, weight-host}

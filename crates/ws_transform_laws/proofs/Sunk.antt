@@ -4,7 +4,8 @@ use Rattle.ws_value.specs.declared.ids.StreamId.{StreamId}
 use Rattle.ws_steps.specs.declared.calls.Call.{Call}
 use Rattle.ws_steps.specs.declared.effects.Owner.{Owner}
 use Rattle.ws_steps.specs.declared.effects.Owner.TheVariants.{Host, HalfOf, BranchOf, EndOf}
-use Rattle.ws_steps.specs.Calls.{Begun, begin}
+use Rattle.ws_steps.specs.Begun.{Begun}
+use Rattle.ws_steps.specs.Calls.{begin}
 use Rattle.ws_steps.specs.Run.{Entry, run}
 use Rattle.ws_steps.specs.Slots.{Slots, Stream, ReadableStream, ByteStream, WritableStream, empty, has_writable, owner_at, owner_of, is_writable_stream}
 use Rattle.ws_laws.proofs.EachCall.{each_call}
@@ -12,7 +13,7 @@ use Rattle.ws_laws.proofs.Shapes.{StreamShape, ReadableOf, BytesOf, WritableOf, 
 use Rattle.ws_laws.proofs.Walker.{Stays, run-stays}
 use Rattle.ws_steps.specs.declared.port.Side.{Side}
 use Rattle.std.proofs.Common.{length}
-use Rattle.ws_steps.specs.Calls.{add_port}
+use Rattle.ws_steps.specs.PipeCalls.{add_port}
 use Rattle.ws_steps.specs.declared.port.Side.TheVariants.{Writable as WritableSide}
 use Rattle.ws_steps.specs.declared.port.Side.TheVariants.{Readable as ReadableSide}
 

@@ -8,8 +8,11 @@ use Rattle.ws_steps.specs.declared.effects.Effect.TheVariants.{Writable as OnWri
 use Rattle.ws_steps.specs.declared.readable.SizeBy.TheVariants.{Count}
 use Rattle.ws_steps.specs.declared.transform.{Kind.{Kind}, TransformId.{TransformId}}
 use Rattle.ws_steps.specs.declared.transform.TransformOperation.TheVariants as names
-use Rattle.ws_steps.specs.Calls as calls
-use Rattle.ws_steps.specs.Calls.{Begun, begin, add_stream}
+use Rattle.ws_steps.specs.MakingCalls as making_calls
+use Rattle.ws_steps.specs.PipeCalls as pipe_calls
+use Rattle.ws_steps.specs.Begun.{Begun}
+use Rattle.ws_steps.specs.MakingCalls.{add_stream}
+use Rattle.ws_steps.specs.Calls.{begin}
 use Rattle.ws_steps.specs.Histories.{is_same}
 use Rattle.ws_steps.specs.Jobs.{job_effects}
 use Rattle.ws_steps.specs.Promises.{next_id, after_next_job}
@@ -132,7 +135,7 @@ module _ (i : StreamId) (t : TransformId) where
   abbrev Two : TransformId → ℕ → Stream
   Two me n = ReadableStream (readable.set_up (HalfOf me) n Count)
 
-  made : (h : Both) (s : Slots) (kind : Kind) (m n : ℕ) (start : StartBy) → Rest h s → Rest h (calls.make_transform kind m n start (record { 0 = length s.streams }) (record { 0 = length s.streams + 1 }) s).done.slots
+  made : (h : Both) (s : Slots) (kind : Kind) (m n : ℕ) (start : StartBy) → Rest h s → Rest h (making_calls.make_transform kind m n start (record { 0 = length s.streams }) (record { 0 = length s.streams + 1 }) s).done.slots
   made h s kind m n start k =
       let me : TransformId = record { 0 = length s.transforms } in
       let x : transform.Slots = transform.set_up kind (record { 0 = length s.streams }) (record { 0 = length s.streams + 1 }) (next_id s.promises) in
@@ -154,7 +157,7 @@ module _ (i : StreamId) (t : TransformId) where
   abbrev Branch : TeeId → Half → Stream
   Branch me half = ReadableStream (readable.set_up (BranchOf me half) 1 Count)
 
-  teed : (h : Both) (s : Slots) (j : StreamId) → Rest h s → Rest h (calls.make_tee j (record { 0 = length s.streams }) (record { 0 = length s.streams + 1 }) s).done.slots
+  teed : (h : Both) (s : Slots) (j : StreamId) → Rest h s → Rest h (making_calls.make_tee j (record { 0 = length s.streams }) (record { 0 = length s.streams + 1 }) s).done.slots
   teed h s j k =
       let me : TeeId = record { 0 = length s.tees } in
       record {
@@ -173,9 +176,9 @@ module _ (i : StreamId) (t : TransformId) where
     unmade = λ none. k.unmade (rw f at none);
   }
 
-  ported : (h : Both) (s : Slots) (side : Side) (j : StreamId) → Rest h s → Rest h (calls.add_port j s side)
-  ported h s ReadableSide j k = record { linked = k.linked; unacted = λ none. k.unacted (has-before s.streams (calls.end_of (record { 0 = length s.ports }) ReadableSide ∷ []) i.0 none); unmade = k.unmade }
-  ported h s WritableSide j k = record { linked = k.linked; unacted = λ none. k.unacted (has-before s.streams (calls.end_of (record { 0 = length s.ports }) WritableSide ∷ []) i.0 none); unmade = k.unmade }
+  ported : (h : Both) (s : Slots) (side : Side) (j : StreamId) → Rest h s → Rest h (pipe_calls.add_port j s side)
+  ported h s ReadableSide j k = record { linked = k.linked; unacted = λ none. k.unacted (has-before s.streams (pipe_calls.end_of (record { 0 = length s.ports }) ReadableSide ∷ []) i.0 none); unmade = k.unmade }
+  ported h s WritableSide j k = record { linked = k.linked; unacted = λ none. k.unacted (has-before s.streams (pipe_calls.end_of (record { 0 = length s.ports }) WritableSide ∷ []) i.0 none); unmade = k.unmade }
 
   call-even : (h : Both) (s : Slots) (c : Call) → Rest h s → Rest h (begin c s).done.slots
   call-even h s c k = each_call (λ (b : Begun). Rest h b.done.slots) c s (record {
@@ -212,8 +215,8 @@ module _ (i : StreamId) (t : TransformId) where
     pipe = λ source dest prevent signal e f l m. same-even h s _ refl refl k;
     make_signal = same-even h s _ refl refl k;
     open_end = λ side. ported h s side (record { 0 = length s.streams }) k;
-    send_readable = λ j there free. same-even h (calls.add_port (record { 0 = length s.streams }) s WritableSide) _ refl refl (ported h s WritableSide (record { 0 = length s.streams }) k);
-    send_writable = λ j there free. same-even h (calls.add_port (record { 0 = length s.streams }) s ReadableSide) _ refl refl (ported h s ReadableSide (record { 0 = length s.streams }) k);
+    send_readable = λ j there free. same-even h (pipe_calls.add_port (record { 0 = length s.streams }) s WritableSide) _ refl refl (ported h s WritableSide (record { 0 = length s.streams }) k);
+    send_writable = λ j there free. same-even h (pipe_calls.add_port (record { 0 = length s.streams }) s ReadableSide) _ refl refl (ported h s ReadableSide (record { 0 = length s.streams }) k);
     deliver = λ p m e is. k;
     trigger = λ a reason. k;
     settle = λ a answer p e. same-even h s _ refl refl k;

@@ -8,8 +8,12 @@ use Rattle.ws_steps.specs.declared.effects.Effect.TheVariants.{Readable as OnRea
 use Rattle.ws_steps.specs.declared.promises.Job.{Job}
 use Rattle.ws_steps.specs.declared.readable.{ReadableOperation.TheVariants.{InitializeReader}, SizeBy.TheVariants.{Count}}
 use Rattle.ws_steps.specs.declared.transform.{Kind.{Kind}, TransformId.{TransformId}}
-use Rattle.ws_steps.specs.Calls as calls
-use Rattle.ws_steps.specs.Calls.{Begun, begin, add_stream}
+use Rattle.ws_steps.specs.MakingCalls as making_calls
+use Rattle.ws_steps.specs.LockCalls as lock_calls
+use Rattle.ws_steps.specs.PipeCalls as pipe_calls
+use Rattle.ws_steps.specs.Begun.{Begun}
+use Rattle.ws_steps.specs.MakingCalls.{add_stream}
+use Rattle.ws_steps.specs.Calls.{begin}
 use Rattle.ws_steps.specs.Histories.{is_same}
 use Rattle.ws_steps.specs.Jobs.{job_effects}
 use Rattle.ws_steps.specs.Promises.{Table, is_pending_at, next_id, fresh, next_job, after_next_job, watch}
@@ -143,7 +147,7 @@ module _ (t : TransformId) (r : StreamId) where
   five-lighter : (u : Table) → lighter u (fresh (fresh (fresh (fresh (fresh u)))))
   five-lighter u = lighter-on u (fresh u) (fresh (fresh (fresh (fresh (fresh u))))) (fresh-lighter u) (four-lighter (fresh u))
 
-  renewed-lighter : (u : Table) (kept : Bool) → lighter u (calls.with_renewed u kept)
+  renewed-lighter : (u : Table) (kept : Bool) → lighter u (lock_calls.with_renewed u kept)
   renewed-lighter u true = omega arith
   renewed-lighter u false = fresh-lighter u
 
@@ -156,11 +160,11 @@ module _ (t : TransformId) (r : StreamId) where
   calls-same h s z cs k tied e f w b c =
       let n = b.none in carried h s z cs (same s z cs tied e f (omega arith) b.plain) (λ m claim. calm-fits z cs (c m) claim) k
 
-  renewed-begins : (z : Slots) (u : Table) (kept : Bool) (cs : List Effect) → Begins z cs → Begins z (calls.reject_renewed u kept ++ cs)
+  renewed-begins : (z : Slots) (u : Table) (kept : Bool) (cs : List Effect) → Begins z cs → Begins z (lock_calls.reject_renewed u kept ++ cs)
   renewed-begins z u true cs b = b
   renewed-begins z u false cs b = let n = b.none in record { none = omega arith; plain = (tt, b.plain) }
 
-  renewed-calms : (z : Slots) (u : Table) (kept : Bool) (cs : List Effect) → Calms t r z cs → Calms t r z (calls.reject_renewed u kept ++ cs)
+  renewed-calms : (z : Slots) (u : Table) (kept : Bool) (cs : List Effect) → Calms t r z cs → Calms t r z (lock_calls.reject_renewed u kept ++ cs)
   renewed-calms z u true cs b = b
   renewed-calms z u false cs b = (tt, b)
 
@@ -227,14 +231,14 @@ module _ (t : TransformId) (r : StreamId) where
   shape-past (x ∷ xs) = shape-past xs
 
   made : (h : Reads) (s : Slots) (kind : Kind) (m n : ℕ) (start : StartBy) → Known t r h s []
-      → let d = (calls.make_transform kind m n start (record { 0 = length s.streams }) (record { 0 = length s.streams + 1 }) s).done in Tied d.slots → Begins d.slots d.caused → Calms t r d.slots d.caused → Known t r h d.slots d.caused
+      → let d = (making_calls.make_transform kind m n start (record { 0 = length s.streams }) (record { 0 = length s.streams + 1 }) s).done in Tied d.slots → Begins d.slots d.caused → Calms t r d.slots d.caused → Known t r h d.slots d.caused
   unfolding Old
   made h s kind m n start k tied b c =
       let me : TransformId = record { 0 = length s.transforms } in
       let w : Stream = WritableStream (writable.set_up (HalfOf me) m Count) in
       let y : Stream = ReadableStream (readable.set_up (HalfOf me) n Count) in
       let x : transform.Slots = transform.set_up kind (record { 0 = length s.streams }) (record { 0 = length s.streams + 1 }) (next_id s.promises) in
-      let d = (calls.make_transform kind m n start (record { 0 = length s.streams }) (record { 0 = length s.streams + 1 }) s).done in
+      let d = (making_calls.make_transform kind m n start (record { 0 = length s.streams }) (record { 0 = length s.streams + 1 }) s).done in
       let none = b.none in
       let light = four-lighter s.promises in
       carried h s d.slots d.caused (record {
@@ -266,13 +270,13 @@ module _ (t : TransformId) (r : StreamId) where
   free-before (x ∷ xs) y (suc n) new e = free-before xs y n new e
 
   teed : (h : Reads) (s : Slots) (j : StreamId) → Known t r h s []
-      → let d = (calls.make_tee j (record { 0 = length s.streams }) (record { 0 = length s.streams + 1 }) s).done in Tied d.slots → is_some (source_at j s).reader ≡ false → Known t r h d.slots d.caused
+      → let d = (making_calls.make_tee j (record { 0 = length s.streams }) (record { 0 = length s.streams + 1 }) s).done in Tied d.slots → is_some (source_at j s).reader ≡ false → Known t r h d.slots d.caused
   unfolding Old
   teed h s j k tied free =
       let me : TeeId = record { 0 = length s.tees } in
       let first : readable.Slots = readable.set_up (BranchOf me First) 1 Count in
       let second : readable.Slots = readable.set_up (BranchOf me Second) 1 Count in
-      let d = (calls.make_tee j (record { 0 = length s.streams }) (record { 0 = length s.streams + 1 }) s).done in
+      let d = (making_calls.make_tee j (record { 0 = length s.streams }) (record { 0 = length s.streams + 1 }) s).done in
       let light = two-lighter s.promises in
       carried h s d.slots d.caused (record {
         tied = tied;
@@ -293,12 +297,12 @@ module _ (t : TransformId) (r : StreamId) where
 
   -- a pipe begins
 
-  pipe-begins : (z : Slots) (me : PipeId) (p q : PromiseId) (signal : Option SignalId) (reason : Option Plain) → Begins z (calls.pipe_begins me p q signal reason) × Calms t r z (calls.pipe_begins me p q signal reason)
+  pipe-begins : (z : Slots) (me : PipeId) (p q : PromiseId) (signal : Option SignalId) (reason : Option Plain) → Begins z (pipe_calls.pipe_begins me p q signal reason) × Calms t r z (pipe_calls.pipe_begins me p q signal reason)
   pipe-begins z me p q signal (Some c) = (record { none = refl; plain = (tt, tt) }, (tt, tt))
   pipe-begins z me p q None None = (record { none = refl; plain = (tt, (tt, (tt, tt))) }, (tt, (tt, (tt, tt))))
   pipe-begins z me p q (Some a) None = (record { none = refl; plain = (tt, (tt, (tt, (tt, tt)))) }, (tt, (tt, (tt, (tt, tt)))))
 
-  start-begins : (z : Slots) (p : PromiseId) (j : StreamId) (start : StartBy) → Begins z (calls.start_transform p j start ∷ []) × Calms t r z (calls.start_transform p j start ∷ [])
+  start-begins : (z : Slots) (p : PromiseId) (j : StreamId) (start : StartBy) → Begins z (making_calls.start_transform p j start ∷ []) × Calms t r z (making_calls.start_transform p j start ∷ [])
   start-begins z p j Now = (record { none = refl; plain = (tt, tt) }, (tt, tt))
   start-begins z p j Later = (record { none = refl; plain = (tt, tt) }, (tt, tt))
 
@@ -328,12 +332,12 @@ module _ (t : TransformId) (r : StreamId) where
       }
 
   ported : (h : Reads) (s : Slots) (side : Side) → Known t r h s []
-      → let d = (calls.open_end side (record { 0 = length s.streams }) s).done in Tied d.slots → Known t r h d.slots d.caused
+      → let d = (pipe_calls.open_end side (record { 0 = length s.streams }) s).done in Tied d.slots → Known t r h d.slots d.caused
   ported h s ReadableSide k tied =
-      let d = (calls.open_end ReadableSide (record { 0 = length s.streams }) s).done in
+      let d = (pipe_calls.open_end ReadableSide (record { 0 = length s.streams }) s).done in
       carried h s d.slots d.caused (grown h s d.slots _ d.caused k refl refl (omega arith) tied (one _ _ refl tt)) (λ m claim. calm-fits d.slots d.caused (tt, tt) claim) k
   ported h s WritableSide k tied =
-      let d = (calls.open_end WritableSide (record { 0 = length s.streams }) s).done in
+      let d = (pipe_calls.open_end WritableSide (record { 0 = length s.streams }) s).done in
       carried h s d.slots d.caused (grown h s d.slots _ d.caused k refl refl (fresh-lighter s.promises) tied (one _ _ refl tt)) (λ m claim. calm-fits d.slots d.caused (tt, tt) claim) k
 
   -- and a reader comes to a stream that has none
@@ -371,13 +375,13 @@ module _ (t : TransformId) (r : StreamId) where
     make_readable = λ mark size start tied. added h s _ _ k tied (one _ _ refl tt) (tt, tt);
     make_writable = λ mark size start tied. added h s _ _ k tied (one _ _ refl tt) (tt, tt);
     make_transform = λ kind m n start tied.
-        let b = start-begins (calls.make_transform kind m n start (record { 0 = length s.streams }) (record { 0 = length s.streams + 1 }) s).done.slots (next_id (fresh s.promises)) (record { 0 = length s.streams + 1 }) start in
+        let b = start-begins (making_calls.make_transform kind m n start (record { 0 = length s.streams }) (record { 0 = length s.streams + 1 }) s).done.slots (next_id (fresh s.promises)) (record { 0 = length s.streams + 1 }) start in
         let z = b.0.none in
         made h s kind m n start k tied (record { none = omega arith; plain = (tt, (tt, (tt, (tt, b.0.plain)))) }) (tt, (tt, (tt, (tt, b.1))));
     get_byob = λ j is e tied. calls-same h s _ _ k tied refl refl (fresh-lighter s.promises) (one _ _ refl tt) (λ m. (tt, tt));
     release_byob = λ l closed j e tied.
         let kept : Bool = readable.is_readable (source_at j s).state in
-        let z : Slots = (calls.release_reader (ByobReader None) l closed j s).done.slots in
+        let z : Slots = (lock_calls.release_reader (ByobReader None) l closed j s).done.slots in
         calls-same h s z _ k tied refl refl (renewed-lighter s.promises kept) (renewed-begins z s.promises kept _ (one z _ refl tt)) (λ m. renewed-calms z s.promises kept _ (tt, tt));
     read_into = λ l j closed room element least e f tied. calls-same h s _ _ k tied refl refl (fresh-lighter s.promises) (one _ _ refl tt) (λ m. (tt, tt));
     enqueue_bytes = λ j b e is some can tied. calls-same h s s _ k tied refl refl (omega arith) (one _ _ refl tt) (λ m. (tt, tt));
@@ -390,14 +394,14 @@ module _ (t : TransformId) (r : StreamId) where
     get_writer = λ j e tied. calls-same h s _ _ k tied refl refl (two-lighter s.promises) (one _ _ refl tt) (λ m. (tt, tt));
     release_reader = λ l closed j e tied.
         let kept : Bool = readable.is_readable (source_at j s).state in
-        let z : Slots = (calls.release_reader (ReaderLock None) l closed j s).done.slots in
+        let z : Slots = (lock_calls.release_reader (ReaderLock None) l closed j s).done.slots in
         calls-same h s z _ k tied refl refl (renewed-lighter s.promises kept) (renewed-begins z s.promises kept _ (one z _ refl tt)) (λ m. renewed-calms z s.promises kept _ (tt, tt));
     release_writer = λ l j w e f tied.
         let ready : Bool = is_pending_at w.ready s.promises in
-        let u : Table = calls.with_renewed s.promises ready in
+        let u : Table = lock_calls.with_renewed s.promises ready in
         let closed : Bool = is_pending_at w.closed u in
-        let z : Slots = (calls.release_writer l j w s).done.slots in
-        calls-same h s z _ k tied refl refl (lighter-on s.promises u (calls.with_renewed u closed) (renewed-lighter s.promises ready) (renewed-lighter u closed))
+        let z : Slots = (lock_calls.release_writer l j w s).done.slots in
+        calls-same h s z _ k tied refl refl (lighter-on s.promises u (lock_calls.with_renewed u closed) (renewed-lighter s.promises ready) (renewed-lighter u closed))
         (renewed-begins z s.promises ready _ (renewed-begins z u closed _ (one z _ refl tt))) (λ m. renewed-calms z s.promises ready _ (renewed-calms z u closed _ (tt, tt)));
     cancel = λ reason j tied. calls-same h s _ _ k tied refl refl (fresh-lighter s.promises) (one _ _ refl tt) (λ m. (tt, tt));
     read = λ l j closed e f tied. calls-same h s _ _ k tied refl refl (fresh-lighter s.promises) (one _ _ refl tt) (λ m. (tt, tt));
@@ -412,16 +416,16 @@ module _ (t : TransformId) (r : StreamId) where
     fail_half = λ u reason tied. calls-same h s s _ k tied refl refl (omega arith) (one _ _ refl tt) (λ m. (tt, tt));
     terminate = λ u tied. calls-same h s s _ k tied refl refl (omega arith) (one _ _ refl tt) (λ m. (tt, tt));
     pipe = λ source dest prevent signal e f l m tied.
-        let b = pipe-begins (calls.pipe_to source dest prevent signal s).done.slots (record { 0 = length s.pipes }) (next_id s.promises) (next_id (fresh (fresh s.promises))) signal (calls.reason_of signal s) in
+        let b = pipe-begins (pipe_calls.pipe_to source dest prevent signal s).done.slots (record { 0 = length s.pipes }) (next_id s.promises) (next_id (fresh (fresh s.promises))) signal (pipe_calls.reason_of signal s) in
         let z = b.0.none in
         calls-open h s _ source _ _ k tied refl refl (four-lighter s.promises) l (record { none = omega arith; plain = (tt, (tt, (tt, b.0.plain))) }) (tt, (tt, b.1));
     make_signal = λ tied. calls-same h s _ [] k tied refl refl (omega arith) (record { none = refl; plain = tt }) (λ m. tt);
     open_end = λ side tied. ported h s side k tied;
     send_readable = λ j there free tied.
-        let y : Stream = calls.end_of (record { 0 = length s.ports }) WritableSide in
+        let y : Stream = pipe_calls.end_of (record { 0 = length s.ports }) WritableSide in
         sent h s _ y _ j _ _ _ k refl refl (five-lighter s.promises) tied refl (source-unlocked s y j there free) (record { none = refl; plain = (tt, (tt, (tt, (tt, (tt, (tt, (tt, tt))))))) }) (tt, (tt, (tt, (tt, (tt, tt)))));
     send_writable = λ j there free tied.
-        let y : Stream = calls.end_of (record { 0 = length s.ports }) ReadableSide in
+        let y : Stream = pipe_calls.end_of (record { 0 = length s.ports }) ReadableSide in
         sent h s _ y _ (record { 0 = length s.streams }) _ _ _ k refl refl (four-lighter s.promises) tied refl
         (ap (λ (o : Option Stream). is_some (as_source o).reader) (place_last s.streams y)) (record { none = refl; plain = (tt, (tt, (tt, (tt, (tt, (tt, (tt, tt))))))) }) (tt, (tt, (tt, (tt, (tt, tt)))));
     deliver = λ p m e is tied. calls-same h s s _ k tied refl refl (omega arith) (one _ _ refl tt) (λ l. (tt, tt));

@@ -6,7 +6,8 @@ use Rattle.ws_steps.specs.declared.calls.HostCall.TheVariants.{Start as HostStar
 use Rattle.ws_steps.specs.declared.effects.{Effect.{Effect}, Effect.TheVariants.{CloseAlgorithm, CallHost}, Use.{Use}}
 use Rattle.ws_steps.specs.declared.promises.{Job.{Job}, Reaction.{Reaction}}
 use Rattle.ws_steps.specs.declared.transform.TransformId.{TransformId}
-use Rattle.ws_steps.specs.Calls.{Begun, begin}
+use Rattle.ws_steps.specs.Begun.{Begun}
+use Rattle.ws_steps.specs.Calls.{begin}
 use Rattle.ws_steps.specs.Histories.{is_same}
 use Rattle.ws_steps.specs.Jobs.{job_effects}
 use Rattle.ws_steps.specs.Promises.{Entry as PromiseEntry, Table, next_id, next_job, after_next_job, watch}

@@ -17,7 +17,8 @@ use Rattle.ws_steps.specs.declared.readable.{ReadRequest.{ReadRequest}, ReadRequ
 use Rattle.ws_steps.specs.declared.transform.{Halves.{Halves}, Kind.{Kind}, Kind.TheVariants.{Identity, Host as HostKind}, TransformId.{TransformId}, TransformOperation.{TransformOperation}}
 use Rattle.ws_steps.specs.declared.transform.TransformOperation.TheVariants as names_of
 use Rattle.ws_steps.specs.declared.writable.{WritableOperation.{WritableOperation}}
-use Rattle.ws_steps.specs.Calls.{Begun, begin}
+use Rattle.ws_steps.specs.Begun.{Begun}
+use Rattle.ws_steps.specs.Calls.{begin}
 use Rattle.ws_steps.specs.Jobs.{job_effects}
 use Rattle.ws_steps.specs.Promises.{Table, next_id}
 use Rattle.ws_steps.specs.Slots.{Slots, found, halves_at, owner_at, has_writable, on_transform_at, Done, nothing, put_writable, writable_at, as_writable, Stream}
@@ -27,7 +28,7 @@ use Rattle.ws_laws.proofs.EachCall.{each_call}
 use Rattle.ws_laws.proofs.Halves.{Halved, get-stays}
 use Rattle.ws_laws.proofs.Lists.{Each, each-append, each-map}
 use Rattle.ws_laws.proofs.PipeDoes.{PipeCauses}
-use Rattle.ws_laws.proofs.Rows.{ChunkCauses, EndCauses, ErrorCauses, SignalCauses, row-causes}
+use Rattle.ws_laws.proofs.Causes.{ChunkCauses, EndCauses, ErrorCauses, SignalCauses, row-causes}
 use Rattle.ws_laws.proofs.Shapes.{map-there, StreamShape, stream_shape, stream_shapes, row-stream_shapes}
 use Rattle.ws_transform_laws.specs.TransformHistory.{is_same_transform}
 use Rattle.ws_transform_laws.proofs.Cancelling.{is_half, mine, is_cancelled}

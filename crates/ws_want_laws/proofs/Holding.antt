@@ -16,7 +16,8 @@ use Rattle.ws_steps.specs.declared.readable.{ReadRequest.{ReadRequest}, ReadRequ
 use Rattle.ws_steps.specs.declared.transform.{TransformId.{TransformId}}
 use Rattle.ws_steps.specs.declared.transform.TransformOperation.TheVariants as names_of
 use Rattle.ws_steps.specs.declared.writable.{WritableOperation.{WritableOperation}, WritableState.{WritableState}, WritableState.TheVariants.{Writable, Erroring, Errored, Closed}}
-use Rattle.ws_steps.specs.Calls.{Begun, begin}
+use Rattle.ws_steps.specs.Begun.{Begun}
+use Rattle.ws_steps.specs.Calls.{begin}
 use Rattle.ws_steps.specs.Jobs.{job_effects}
 use Rattle.ws_steps.specs.Promises.{next_id}
 use Rattle.ws_steps.specs.Slots.{Slots, found, halves_at, owner_at, has_writable, on_transform_at}
@@ -26,7 +27,7 @@ use Rattle.ws_laws.proofs.EachCall.{each_call}
 use Rattle.ws_laws.proofs.Halves.{Halved}
 use Rattle.ws_laws.proofs.Lists.{Each, each-append, each-map}
 use Rattle.ws_laws.proofs.PipeDoes.{PipeCauses}
-use Rattle.ws_laws.proofs.Rows.{ChunkCauses, EndCauses, ErrorCauses, SignalCauses, row-causes}
+use Rattle.ws_laws.proofs.Causes.{ChunkCauses, EndCauses, ErrorCauses, SignalCauses, row-causes}
 use Rattle.ws_laws.proofs.Shapes.{TransformShape, transform_shapes}
 use Rattle.ws_laws.proofs.Tables.{eq_numbers, is_same-refl}
 use Rattle.ws_laws.proofs.TransformDoes.{TransformCauses}

@@ -9,8 +9,10 @@ use Rattle.ws_steps.specs.declared.promises.Job.{Job}
 use Rattle.ws_steps.specs.declared.readable.ReadableOperation.TheVariants.{Enqueue}
 use Rattle.ws_steps.specs.declared.transform.TransformId.{TransformId}
 use Rattle.ws_steps.specs.declared.transform.TransformOperation.TheVariants as names_of
-use Rattle.ws_steps.specs.Calls as calls
-use Rattle.ws_steps.specs.Calls.{Begun, begin, unsupported}
+use Rattle.ws_steps.specs.Begun as replying
+use Rattle.ws_steps.specs.ControllerCalls as controller_calls
+use Rattle.ws_steps.specs.Begun.{Begun, unsupported}
+use Rattle.ws_steps.specs.Calls.{begin}
 use Rattle.ws_steps.specs.Histories.{is_same}
 use Rattle.ws_steps.specs.Jobs.{job_effects}
 use Rattle.ws_steps.specs.Promises.{next_job, after_next_job, watch}
@@ -119,29 +121,29 @@ module _ (t : TransformId) (i r : StreamId) where
           Inside (OnTransform u (names_of.Enqueue v) ∷ []) [] refl (tt, tt) (waits-none t s (none-meanwhile (write_waits t s) v none)) refl
 
   by-owner : (s : Slots) (j : StreamId) (v : Value) (owner : Owner) → Halved s → IsRight s → has_readable j s ≡ true → (readable_at j s).owner ≡ owner
-      → let b : Begun = calls.enqueue_by v j s owner in Meanwhile (EnqueueCall j v) s b ≡ [] → Zone t b.done.slots b.done.caused
+      → let b : Begun = controller_calls.enqueue_by v j s owner in Meanwhile (EnqueueCall j v) s b ≡ [] → Zone t b.done.slots b.done.caused
   by-owner s j v Host halved h there is none =
-      either (λ (b : Begun). Meanwhile (EnqueueCall j v) s b ≡ [] → Zone t b.done.slots b.done.caused) (can_close_or_enqueue (readable_at j s)) (calls.does (OnReadable j (Enqueue v) ∷ []) s) (calls.throws_type_error s)
+      either (λ (b : Begun). Meanwhile (EnqueueCall j v) s b ≡ [] → Zone t b.done.slots b.done.caused) (can_close_or_enqueue (readable_at j s)) (replying.does (OnReadable j (Enqueue v) ∷ []) s) (replying.throws_type_error s)
       (λ can n. Outside refl) (λ cannot n. Outside refl) none
   by-owner s j v (HalfOf u) halved h there is none =
-      either (λ (b : Begun). Meanwhile (EnqueueCall j v) s b ≡ [] → Zone t b.done.slots b.done.caused) (can_close_or_enqueue (readable_at j s)) (calls.does (OnTransform u (names_of.Enqueue v) ∷ []) s) (calls.throws_type_error s)
+      either (λ (b : Begun). Meanwhile (EnqueueCall j v) s b ≡ [] → Zone t b.done.slots b.done.caused) (can_close_or_enqueue (readable_at j s)) (replying.does (OnTransform u (names_of.Enqueue v) ∷ []) s) (replying.throws_type_error s)
       (λ can n. enters-zone s j v u halved h there is n) (λ cannot n. Outside refl) none
   by-owner s j v (BranchOf u half) halved h there is none = Outside refl
   by-owner s j v (EndOf c) halved h there is none = Outside refl
 
   -- an enqueue of bytes tells no transform stream
-  bytes-zone : (s : Slots) (j : StreamId) (v : Value) → let b : Begun = calls.enqueue_bytes j s v in Zone t b.done.slots b.done.caused
+  bytes-zone : (s : Slots) (j : StreamId) (v : Value) → let b : Begun = controller_calls.enqueue_bytes j s v in Zone t b.done.slots b.done.caused
   bytes-zone s j (PlainValue v) = Outside refl
   bytes-zone s j (Bytes b) =
-      either (λ (x : Begun). Zone t x.done.slots x.done.caused) (not (is_empty b) && byte.can_take (byte_at j s)) (calls.does (Byte j (EnqueueBytes b) ∷ []) s) (calls.throws_type_error s)
+      either (λ (x : Begun). Zone t x.done.slots x.done.caused) (not (is_empty b) && byte.can_take (byte_at j s)) (replying.does (Byte j (EnqueueBytes b) ∷ []) s) (replying.throws_type_error s)
       (λ can. Outside refl) (λ cannot. Outside refl)
 
   call-zone : (s : Slots) (c : Call) → Halved s → IsRight s → step_meanwhile t r s (Called c) ≡ [] → Zone t (begin c s).done.slots (begin c s).done.caused
   unfolding begin
   call-zone s (EnqueueCall j v) halved h none =
-      either (λ (b : Begun). Meanwhile (EnqueueCall j v) s b ≡ [] → Zone t b.done.slots b.done.caused) (has_byte j s) (calls.enqueue_bytes j s v) (calls.for_readable j (calls.enqueue v j) s)
+      either (λ (b : Begun). Meanwhile (EnqueueCall j v) s b ≡ [] → Zone t b.done.slots b.done.caused) (has_byte j s) (controller_calls.enqueue_bytes j s v) (replying.for_readable j (controller_calls.enqueue v j) s)
       (λ is n. bytes-zone s j v)
-      (λ isnt. either (λ (b : Begun). Meanwhile (EnqueueCall j v) s b ≡ [] → Zone t b.done.slots b.done.caused) (has_readable j s) (calls.enqueue v j s) (unsupported s)
+      (λ isnt. either (λ (b : Begun). Meanwhile (EnqueueCall j v) s b ≡ [] → Zone t b.done.slots b.done.caused) (has_readable j s) (controller_calls.enqueue v j s) (unsupported s)
       (λ there n. by-owner s j v (readable_at j s).owner halved h there refl n) (λ absent n. Outside refl)) none
   call-zone s c halved h none = Outside (first-unmarked (Enqueues c) (λ j v e. cc) (begin c s).done.caused (begin-first c s) (call-untold c s))
 

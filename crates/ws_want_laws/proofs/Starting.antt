@@ -18,8 +18,11 @@ use Rattle.ws_steps.specs.declared.pipes.{SignalOperation.{SignalOperation}, Sig
 use Rattle.ws_steps.specs.declared.promises.{Job.{Job}, Job.TheVariants.{Follow}, Step.{Step}, Step.TheVariants.{WritableStart}}
 use Rattle.ws_steps.specs.declared.readable.{ReadRequest.{ReadRequest}, ReadRequest.TheVariants.{Promise, Pipe as PipeRequest, Tee as TeeRequest}}
 use Rattle.ws_steps.specs.declared.transform.{Kind.{Kind}, TransformId.{TransformId}}
-use Rattle.ws_steps.specs.Calls as calls
-use Rattle.ws_steps.specs.Calls.{Begun, begin, add_stream}
+use Rattle.ws_steps.specs.MakingCalls as making_calls
+use Rattle.ws_steps.specs.PipeCalls as pipe_calls
+use Rattle.ws_steps.specs.Begun.{Begun}
+use Rattle.ws_steps.specs.MakingCalls.{add_stream}
+use Rattle.ws_steps.specs.Calls.{begin}
 use Rattle.ws_steps.specs.Histories.{is_same}
 use Rattle.ws_steps.specs.Jobs.{job_effects}
 use Rattle.ws_steps.specs.Promises.{Table, next_id, fresh, entry_at, is_open, is_open_entry, tell}
@@ -35,7 +38,7 @@ use Rattle.ws_laws.proofs.EachCall.{each_call}
 use Rattle.ws_laws.proofs.Halves.{get-stays, get-last}
 use Rattle.ws_laws.proofs.Lists.{Each, each-append, each-map}
 use Rattle.ws_laws.proofs.PipeDoes.{PipeCauses}
-use Rattle.ws_laws.proofs.Rows.{ChunkCauses, EndCauses, ErrorCauses, SignalCauses, row-causes}
+use Rattle.ws_laws.proofs.Causes.{ChunkCauses, EndCauses, ErrorCauses, SignalCauses, row-causes}
 use Rattle.ws_laws.proofs.Shapes.{StreamShape, ReadableOf, stream_shape, stream_shapes, transform_shapes, transform_shape, map-there, row-stream_shapes}
 use Rattle.ws_laws.proofs.Tables.{eq_numbers, same_id, is_same-refl}
 use Rattle.ws_laws.proofs.TransformDoes.{TransformCauses}
@@ -341,13 +344,13 @@ module _ (t : TransformId) (i r : StreamId) where
   one-more [] x = refl
   one-more (y ∷ ys) x = let h = one-more ys x in omega (arith, h)
 
-  tee-begins : (source : StreamId) (s : Slots) → Begins (calls.make_tee source (record { 0 = length s.streams }) (record { 0 = length s.streams + 1 }) s)
+  tee-begins : (source : StreamId) (s : Slots) → Begins (making_calls.make_tee source (record { 0 = length s.streams }) (record { 0 = length s.streams + 1 }) s)
   tee-begins source s =
       let me : TeeId = record { 0 = length s.tees } in
       let a : Stream = ReadableStream (readable.set_up (BranchOf me First) 1 Count) in
       let b : Stream = ReadableStream (readable.set_up (BranchOf me Second) 1 Count) in
       let xs : List Stream = s.streams ++ a ∷ [] in
-      let made : Begun = calls.make_tee source (record { 0 = length s.streams }) (record { 0 = length s.streams + 1 }) s in
+      let made : Begun = making_calls.make_tee source (record { 0 = length s.streams }) (record { 0 = length s.streams + 1 }) s in
       let first : slice_get (xs ++ b ∷ []) (length s.streams) ≡ Some a = get-stays xs (b ∷ []) (length s.streams) a (get-last s.streams [] a) in
       let second : slice_get (xs ++ b ∷ []) (length s.streams + 1) ≡ Some b = subst (λ (k : ℕ). slice_get (xs ++ b ∷ []) k ≡ Some b) (one-more s.streams a) (get-last xs [] b) in
       plain-own made (λ o. (tt, (placed-other made.done.slots (length s.streams) a first (λ e. cc) o, (placed-other made.done.slots (length s.streams + 1) b second (λ e. cc) o, (tt, tt)))))
@@ -374,14 +377,14 @@ module _ (t : TransformId) (i r : StreamId) where
   if-positive false n l = absurd (omega arith)
 
   made-by : (kind : Kind) (m n : ℕ) (start : StartBy) (s : Slots)
-      → Begins (calls.make_transform kind m n start (record { 0 = length s.streams }) (record { 0 = length s.streams + 1 }) s)
+      → Begins (making_calls.make_transform kind m n start (record { 0 = length s.streams }) (record { 0 = length s.streams + 1 }) s)
   made-by kind m n Now s = plain _ (tt, (tt, (tt, (tt, (tt, tt)))))
   made-by kind m n Later s = record {
     fits = λ h g o.
         let w : StreamId = record { 0 = length s.streams } in
         let j : StreamId = record { 0 = length s.streams + 1 } in
         let me : TransformId = record { 0 = length s.transforms } in
-        let b : Begun = calls.make_transform kind m n Later w j s in
+        let b : Begun = making_calls.make_transform kind m n Later w j s in
         let x : transform.Slots = transform.set_up kind w j (next_id s.promises) in
         let there : slice_get (transform_shapes b.done.slots) me.0 ≡ Some (transform_shape x) = map-there transform_shape (s.transforms ++ x ∷ []) me.0 x (get-last s.transforms [] x) in (
           (tt, (tt, (tt, (tt, (λ same. (_, refl), tt))))),
@@ -397,13 +400,13 @@ module _ (t : TransformId) (i r : StreamId) where
   }
 
   -- nor is one at the end of a port
-  new-end : (s : Slots) (side : Side) (z : Slots) → z.streams ≡ s.streams ++ calls.end_of (record { 0 = length s.ports }) side ∷ [] → IsOwn z → is_same r (record { 0 = length s.streams }) ≡ false
-  new-end s ReadableSide z e o = new-other s (calls.end_of (record { 0 = length s.ports }) ReadableSide) z e (λ f. cc) o
-  new-end s WritableSide z e o = new-other s (calls.end_of (record { 0 = length s.ports }) WritableSide) z e (λ f. cc) o
+  new-end : (s : Slots) (side : Side) (z : Slots) → z.streams ≡ s.streams ++ pipe_calls.end_of (record { 0 = length s.ports }) side ∷ [] → IsOwn z → is_same r (record { 0 = length s.streams }) ≡ false
+  new-end s ReadableSide z e o = new-other s (pipe_calls.end_of (record { 0 = length s.ports }) ReadableSide) z e (λ f. cc) o
+  new-end s WritableSide z e o = new-other s (pipe_calls.end_of (record { 0 = length s.ports }) WritableSide) z e (λ f. cc) o
 
-  open-begins : (side : Side) (s : Slots) → Begins (calls.open_end side (record { 0 = length s.streams }) s)
-  open-begins ReadableSide s = plain-own _ (λ o. (new-end s ReadableSide (calls.open_end ReadableSide (record { 0 = length s.streams }) s).done.slots refl o, tt))
-  open-begins WritableSide s = plain-own _ (λ o. (new-end s WritableSide (calls.open_end WritableSide (record { 0 = length s.streams }) s).done.slots refl o, tt))
+  open-begins : (side : Side) (s : Slots) → Begins (pipe_calls.open_end side (record { 0 = length s.streams }) s)
+  open-begins ReadableSide s = plain-own _ (λ o. (new-end s ReadableSide (pipe_calls.open_end ReadableSide (record { 0 = length s.streams }) s).done.slots refl o, tt))
+  open-begins WritableSide s = plain-own _ (λ o. (new-end s WritableSide (pipe_calls.open_end WritableSide (record { 0 = length s.streams }) s).done.slots refl o, tt))
 
   pub call-begins : (c : Call) (s : Slots) → Begins (begin c s)
   call-begins c s = each_call Begins c s (record {
@@ -440,8 +443,8 @@ module _ (t : TransformId) (i r : StreamId) where
     pipe = λ source dest prevent signal e f l m. plain _ (grind arith);
     make_signal = plain _ tt;
     open_end = λ side. open-begins side s;
-    send_readable = λ j there free. plain-own _ (λ o. (new-end s WritableSide (calls.send_readable j (record { 0 = length s.streams }) s).done.slots refl o, (tt, (tt, (tt, (tt, (tt, (tt, tt))))))));
-    send_writable = λ j there free. plain-own _ (λ o. (new-end s ReadableSide (calls.send_writable j (record { 0 = length s.streams }) s).done.slots refl o, (tt, (tt, (tt, (tt, (tt, (tt, tt))))))));
+    send_readable = λ j there free. plain-own _ (λ o. (new-end s WritableSide (pipe_calls.send_readable j (record { 0 = length s.streams }) s).done.slots refl o, (tt, (tt, (tt, (tt, (tt, (tt, tt))))))));
+    send_writable = λ j there free. plain-own _ (λ o. (new-end s ReadableSide (pipe_calls.send_writable j (record { 0 = length s.streams }) s).done.slots refl o, (tt, (tt, (tt, (tt, (tt, (tt, tt))))))));
     deliver = λ p m e is. plain _ (tt, tt);
     trigger = λ a reason. plain _ (grind arith);
     settle = λ a answer p e. plain _ (grind arith);

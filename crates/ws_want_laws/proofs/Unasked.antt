@@ -1,5 +1,6 @@
 -- A host that enqueues only as it answers enqueues only while no write waits.
-use Rattle.ws_steps.specs.Calls as calls
+use Rattle.ws_steps.specs.Begun as replying
+use Rattle.ws_steps.specs.ControllerCalls as controller_calls
 use Rattle.ws_steps.specs.declared.effects.Owner.TheVariants.{EndOf}
 use Rattle.ws_steps.specs.declared.calls.{Call.{Call}, Call.TheVariants.{Enqueue as EnqueueCall}}
 use Rattle.ws_steps.specs.declared.effects.{Owner.{Owner}, Effect.TheVariants.{Readable as OnReadable, Transform as OnTransform}}
@@ -31,7 +32,8 @@ use Rattle.ws_want_laws.proofs.Waitings.{none-waits}
 use Rattle.ws_want_laws.proofs.Ended.{IsWhole, Cancels, IsCancels, cancels-goes, cancels-rests, none-cancels, cancelling-none}
 use Rattle.ws_steps.specs.Readable.{can_close_or_enqueue}
 use Rattle.ws_laws.proofs.Tables.{either, same_id}
-use Rattle.ws_steps.specs.Calls.{Begun, begin, unsupported}
+use Rattle.ws_steps.specs.Begun.{Begun, unsupported}
+use Rattle.ws_steps.specs.Calls.{begin}
 use Rattle.ws_transform_laws.proofs.Waited.{all_waiting}
 use Rattle.ws_steps.specs.declared.effects.Effect.TheVariants.{Byte}
 use Rattle.ws_steps.specs.declared.byte.ByteOperation.TheVariants.{Enqueue as EnqueueBytes}
@@ -107,11 +109,11 @@ module _ (t : TransformId) (i r : StreamId) where
     abbrev IsNone : StreamId → Value → Begun → Type 0
     IsNone j v b = accepted_by r (EnqueueCall j v) b.reply ≡ []
 
-    owner-none : (j : StreamId) (v : Value) (owner : Owner) → IsNone j v (calls.enqueue_by v j s owner)
+    owner-none : (j : StreamId) (v : Value) (owner : Owner) → IsNone j v (controller_calls.enqueue_by v j s owner)
     owner-none j v Host =
-        either (IsNone j v) (can_close_or_enqueue (readable_at j s)) (calls.does (OnReadable j (Enqueue v) ∷ []) s) (calls.throws_type_error s) (λ can. taken-none j v can) (λ cannot. refl)
+        either (IsNone j v) (can_close_or_enqueue (readable_at j s)) (replying.does (OnReadable j (Enqueue v) ∷ []) s) (replying.throws_type_error s) (λ can. taken-none j v can) (λ cannot. refl)
     owner-none j v (HalfOf u) =
-        either (IsNone j v) (can_close_or_enqueue (readable_at j s)) (calls.does (OnTransform u (names_of.Enqueue v) ∷ []) s) (calls.throws_type_error s) (λ can. taken-none j v can) (λ cannot. refl)
+        either (IsNone j v) (can_close_or_enqueue (readable_at j s)) (replying.does (OnTransform u (names_of.Enqueue v) ∷ []) s) (replying.throws_type_error s) (λ can. taken-none j v can) (λ cannot. refl)
     owner-none j v (BranchOf u half) = refl
     owner-none j v (EndOf c) = refl
 
@@ -123,16 +125,16 @@ module _ (t : TransformId) (i r : StreamId) where
         by false e = sym e
         by true e = let yes : has_byte r s ≡ true = rw (same_id r j (sym e)) is in absurd (cc)
 
-    bytes-none : (j : StreamId) (v : Value) → is_same r j ≡ false → IsNone j v (calls.enqueue_bytes j s v)
+    bytes-none : (j : StreamId) (v : Value) → is_same r j ≡ false → IsNone j v (controller_calls.enqueue_bytes j s v)
     bytes-none j (PlainValue v) n = refl
     bytes-none j (Bytes b) n =
-        either (IsNone j (Bytes b)) (not (is_empty b) && byte.can_take (byte_at j s)) (calls.does (Byte j (EnqueueBytes b) ∷ []) s) (calls.throws_type_error s) (λ can. rw n refl) (λ cannot. refl)
+        either (IsNone j (Bytes b)) (not (is_empty b) && byte.can_take (byte_at j s)) (replying.does (Byte j (EnqueueBytes b) ∷ []) s) (replying.throws_type_error s) (λ can. rw n refl) (λ cannot. refl)
 
     call-none : (c : Call) → accepted_by r c (begin c s).reply ≡ []
     unfolding begin
     call-none (EnqueueCall j v) =
-        either (IsNone j v) (has_byte j s) (calls.enqueue_bytes j s v) (calls.for_readable j (calls.enqueue v j) s) (λ is. bytes-none j v (apart j is))
-        (λ isnt. either (IsNone j v) (has_readable j s) (calls.enqueue v j s) (unsupported s) (λ there. owner-none j v (readable_at j s).owner) (λ absent. refl))
+        either (IsNone j v) (has_byte j s) (controller_calls.enqueue_bytes j s v) (replying.for_readable j (controller_calls.enqueue v j) s) (λ is. bytes-none j v (apart j is))
+        (λ isnt. either (IsNone j v) (has_readable j s) (controller_calls.enqueue v j s) (unsupported s) (λ there. owner-none j v (readable_at j s).owner) (λ absent. refl))
     call-none c = refl
 
     accepted-none : (x : Entry) → accepted_in_step r s x ≡ []

@@ -36,7 +36,7 @@ use Rattle.ws_laws.proofs.Halves.{Halved}
 use Rattle.ws_laws.proofs.Shapes.{ReadableOf, stream_shapes, transform_shape, map-there, owner-told, row-owner}
 use Rattle.ws_steps.specs.declared.tee.TeeOperation.TheVariants.{KeepChunk as KeepByTee}
 use Rattle.ws_laws.proofs.PipeDoes.{PipeCauses}
-use Rattle.ws_laws.proofs.Rows.{ChunkCauses, EndCauses, ErrorCauses, SignalCauses, row-causes}
+use Rattle.ws_laws.proofs.Causes.{ChunkCauses, EndCauses, ErrorCauses, SignalCauses, row-causes}
 use Rattle.ws_laws.proofs.Tables.{either, readable_acts, byte_acts}
 use Rattle.ws_writable_laws.proofs.Shape.{one_if, all, all-append, leads_to, of_use}
 use Rattle.ws_transform_laws.specs.TransformHistory.{is_same_transform}

@@ -2,7 +2,7 @@
 use Rattle.ws_steps.specs.declared.port.Side.TheVariants.{Readable as ReadableSide, Writable as WritableSide}
 use Rattle.ws_steps.specs.declared.byte.ReaderKind.TheVariants.{Default as DefaultKind}
 use Rattle.ws_steps.specs.declared.effects.Effect.TheVariants.{Queue}
-use Rattle.ws_steps.specs.Calls as calls
+use Rattle.ws_steps.specs.PipeCalls as pipe_calls
 use Rattle.ws_steps.specs.declared.readable.ReadableOperation.TheVariants.{Disturb}
 use Rattle.ws_steps.specs.Slots.{has_byte}
 use Rattle.ws_steps.specs.Slots.{on_byte}
@@ -26,14 +26,16 @@ use Rattle.ws_steps.specs.Histories.{is_same}
 use Rattle.ws_steps.specs.Slots.{Slots, Done, nothing, empty, owner_at, has_writable, put_writable, as_writable, writable_at}
 use Rattle.ws_steps.specs.Turns.{row, moments}
 use Rattle.ws_steps.specs.Jobs.{job_begun, begin_job}
-use Rattle.ws_steps.specs.Calls.{Begun, begin}
+use Rattle.ws_steps.specs.Begun.{Begun}
+use Rattle.ws_steps.specs.Calls.{begin}
 use Rattle.ws_steps.specs.Run.{Entry, Called, Worked, Heard, step, run}
 use Rattle.ws_steps.specs.Histories.{along}
 use Rattle.ws_steps.specs.WritableHistory.{Writes, no_writes, writes_then, todo, written_by, effect_writes, step_writes, run_writes}
 use Rattle.ws_steps.specs.Laws.{IsWritableStep, EachWritableStep}
 use Rattle.ws_laws.proofs.EachCall.{each_call}
 use Rattle.ws_laws.proofs.Lists.{Each, each-append, append_cancel, append_none}
-use Rattle.ws_laws.proofs.Rows.{row-causes, row-streams}
+use Rattle.ws_laws.proofs.Apart.{row-streams}
+use Rattle.ws_laws.proofs.Causes.{row-causes}
 use Rattle.ws_laws.proofs.Tables.{either, same_id, writable_acts, on_writable-other, on_writable-same}
 use Rattle.ws_laws.proofs.Walker.{performed-goes}
 use Rattle.ws_writable_laws.proofs.Shape.{Core, core_of, Told}
@@ -138,7 +140,7 @@ job_ended : (i : StreamId) (s : Slots) (job : Option Job) → has_ended (writabl
 job_ended i s None e = e
 job_ended i s (Some job) e = e
 
-open-making : (side : Side) (j : StreamId) → Each IsMaking (calls.start_end j side ∷ [])
+open-making : (side : Side) (j : StreamId) → Each IsMaking (pipe_calls.start_end j side ∷ [])
 open-making ReadableSide j = (tt, tt)
 open-making WritableSide j = (tt, tt)
 

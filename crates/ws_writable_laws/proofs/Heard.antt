@@ -18,7 +18,8 @@ use Rattle.ws_laws.proofs.TeeDoes.{TeeCauses}
 use Rattle.ws_steps.specs.Slots.{Slots, found, halves_at, owner_at, on_transform_at, nothing, empty, with_promises}
 use Rattle.ws_steps.specs.Turns.{row, moments}
 use Rattle.ws_steps.specs.Jobs.{job_effects}
-use Rattle.ws_steps.specs.Calls.{Begun, begin}
+use Rattle.ws_steps.specs.Begun.{Begun}
+use Rattle.ws_steps.specs.Calls.{begin}
 use Rattle.ws_steps.specs.Run.{older, Entry as RunEntry, Called, Worked, Heard, later_events, step, run}
 use Rattle.ws_steps.specs.Histories.{is_same, along, taken_event, taken_in_step, run_events}
 use Rattle.ws_steps.specs.WritableHistory.{Writes, no_writes, writes_then, effect_writes, step_writes, run_writes, heard_writes}
@@ -38,7 +39,7 @@ use Rattle.ws_writable_laws.proofs.Runs.{nothing-writes, is_history, call-was, r
 use Rattle.ws_laws.proofs.Lists.{Each, each-append, each-map}
 use Rattle.ws_laws.proofs.Begin.{IsFirst, Enqueues, Never, begin-first, job-first}
 use Rattle.ws_laws.proofs.Halves.{halved-empty, step-halved}
-use Rattle.ws_laws.proofs.Rows.{SignalCauses, row-causes}
+use Rattle.ws_laws.proofs.Causes.{SignalCauses, row-causes}
 use Rattle.ws_laws.proofs.Shapes.{row-owner}
 use Rattle.ws_laws.proofs.TransformDoes.{TransformCauses, transform-causes}
 use Rattle.ws_laws.proofs.PipeDoes.{PipeCauses}

@@ -18,8 +18,11 @@ use Rattle.ws_steps.specs.Writable as writable
 use Rattle.ws_steps.specs.Writable.{is_closing, is_closed}
 use Rattle.ws_steps.specs.Slots.{Slots, Done, Stream, ReadableStream, WritableStream, empty, owner_at, owner_of, with_promises, writable_at, as_writable, no_writable}
 use Rattle.ws_steps.specs.Jobs.{job_effects}
-use Rattle.ws_steps.specs.Calls.{Begun, begin}
-use Rattle.ws_steps.specs.Calls as calls
+use Rattle.ws_steps.specs.Begun.{Begun}
+use Rattle.ws_steps.specs.Calls.{begin}
+use Rattle.ws_steps.specs.MakingCalls as making_calls
+use Rattle.ws_steps.specs.LockCalls as lock_calls
+use Rattle.ws_steps.specs.PipeCalls as pipe_calls
 use Rattle.ws_steps.specs.Run.{Entry, step, run, older, after_event}
 use Rattle.ws_steps.specs.Histories.{is_same}
 use Rattle.ws_steps.specs.WritableHistory.{Writes, no_writes, writes_then, todo, effect_writes, step_writes, run_writes}
@@ -59,27 +62,27 @@ still-kept i h s z cs e l m tied k = clear-kept i h s z cs (λ n. rw e at n) (rw
 
 -- new streams
 
-added_other : (i : StreamId) (h : Writes) (s : Slots) (y : Stream) (cs : List Effect) → i.0 ≢ length s.streams → all (mass i) cs ≡ 0 → Tied (calls.add_stream y s) → Kept i h s [] → Kept i h (calls.add_stream y s) cs
+added_other : (i : StreamId) (h : Writes) (s : Slots) (y : Stream) (cs : List Effect) → i.0 ≢ length s.streams → all (mass i) cs ≡ 0 → Tied (making_calls.add_stream y s) → Kept i h s [] → Kept i h (making_calls.add_stream y s) cs
 added_other i h s y cs n m tied k =
     let same = place_before s.streams y i.0 n in
-    clear-kept i h s (calls.add_stream y s) cs (λ e. sym same ∙ e) (ap as_writable same) (same_weight s.promises) m tied k
+    clear-kept i h s (making_calls.add_stream y s) cs (λ e. sym same ∙ e) (ap as_writable same) (same_weight s.promises) m tied k
 
-added_bytes : (i : StreamId) (h : Writes) (s : Slots) (b : byte.Slots) (cs : List Effect) (here : Bool) → here ≡ nat_eq i.0 (length s.streams) → all (mass i) cs ≡ 0 → Tied (calls.add_stream (ByteStream b) s) → Kept i h s []
-    → Kept i h (calls.add_stream (ByteStream b) s) cs
+added_bytes : (i : StreamId) (h : Writes) (s : Slots) (b : byte.Slots) (cs : List Effect) (here : Bool) → here ≡ nat_eq i.0 (length s.streams) → all (mass i) cs ≡ 0 → Tied (making_calls.add_stream (ByteStream b) s) → Kept i h s []
+    → Kept i h (making_calls.add_stream (ByteStream b) s) cs
 added_bytes i h s b cs false e m tied k = added_other i h s (ByteStream b) cs (unequal_numbers i.0 (length s.streams) (sym e)) m tied k
 added_bytes i h s b cs true e m tied k =
     let at_end : i.0 ≡ length s.streams = eq_numbers i.0 (length s.streams) (sym e) in
     let before = no_stream i s.streams at_end in
     let after : slice_get (s.streams ++ ByteStream b ∷ []) i.0 ≡ Some (ByteStream b) = rw at_end (place_last s.streams (ByteStream b)) in
-    clear-kept i h s (calls.add_stream (ByteStream b) s) cs (λ n. cc) (ap as_writable after ∙ sym (ap as_writable before)) (same_weight s.promises) m tied k
+    clear-kept i h s (making_calls.add_stream (ByteStream b) s) cs (λ n. cc) (ap as_writable after ∙ sym (ap as_writable before)) (same_weight s.promises) m tied k
 
-added_readable : (i : StreamId) (h : Writes) (s : Slots) (r : readable.Slots) (cs : List Effect) (here : Bool) → here ≡ nat_eq i.0 (length s.streams) → all (mass i) cs ≡ 0 → Tied (calls.add_stream (ReadableStream r) s) → Kept i h s [] → Kept i h (calls.add_stream (ReadableStream r) s) cs
+added_readable : (i : StreamId) (h : Writes) (s : Slots) (r : readable.Slots) (cs : List Effect) (here : Bool) → here ≡ nat_eq i.0 (length s.streams) → all (mass i) cs ≡ 0 → Tied (making_calls.add_stream (ReadableStream r) s) → Kept i h s [] → Kept i h (making_calls.add_stream (ReadableStream r) s) cs
 added_readable i h s r cs false e m tied k = added_other i h s (ReadableStream r) cs (unequal_numbers i.0 (length s.streams) (sym e)) m tied k
 added_readable i h s r cs true e m tied k =
     let at_end : i.0 ≡ length s.streams = eq_numbers i.0 (length s.streams) (sym e) in
     let before = no_stream i s.streams at_end in
     let after : slice_get (s.streams ++ ReadableStream r ∷ []) i.0 ≡ Some (ReadableStream r) = rw at_end (place_last s.streams (ReadableStream r)) in
-    clear-kept i h s (calls.add_stream (ReadableStream r) s) cs (λ n. cc) (ap as_writable after ∙ sym (ap as_writable before)) (same_weight s.promises) m tied k
+    clear-kept i h s (making_calls.add_stream (ReadableStream r) s) cs (λ n. cc) (ap as_writable after ∙ sym (ap as_writable before)) (same_weight s.promises) m tied k
 
 -- a stream of which nothing has happened
 new-fine : (i : StreamId) (mark : ℕ) (size : SizeBy) (start : StartBy) (h : Writes) (s : Slots) (d : List Value) → Unmade i h s [] → Fine (with_effects i (among i s.promises) []) (so_far i h [] no_writable) d (core_of no_writable)
@@ -87,13 +90,13 @@ new-fine : (i : StreamId) (mark : ℕ) (size : SizeBy) (start : StartBy) (h : Wr
 new-fine i mark size start h s d u f =
     let one = is_same-refl i in grind (arith, append_none, append-nil)
 
-added_writable : (i j : StreamId) (mark : ℕ) (size : SizeBy) (start : StartBy) (h : Writes) (s : Slots) (here : Bool) → here ≡ is_same i j → j.0 ≡ length s.streams → Tied (calls.add_stream (WritableStream (writable.set_up Host mark size)) s) → Kept i h s []
-    → Kept i h (calls.add_stream (WritableStream (writable.set_up Host mark size)) s) (StartAlgorithm j (WritableStart j) start ∷ [])
+added_writable : (i j : StreamId) (mark : ℕ) (size : SizeBy) (start : StartBy) (h : Writes) (s : Slots) (here : Bool) → here ≡ is_same i j → j.0 ≡ length s.streams → Tied (making_calls.add_stream (WritableStream (writable.set_up Host mark size)) s) → Kept i h s []
+    → Kept i h (making_calls.add_stream (WritableStream (writable.set_up Host mark size)) s) (StartAlgorithm j (WritableStart j) start ∷ [])
 added_writable i j mark size start h s false e at_end tied k =
     added_other i h s (WritableStream (writable.set_up Host mark size)) (StartAlgorithm j (WritableStart j) start ∷ []) (λ f. unequal_numbers i.0 j.0 (sym e) (f ∙ sym at_end)) (rw (← e) refl) tied k
 added_writable i j mark size start h s true e at_end tied k =
     let is : i ≡ j = same_id i j (sym e) in
-    let z : Slots = calls.add_stream (WritableStream (writable.set_up Host mark size)) s in
+    let z : Slots = making_calls.add_stream (WritableStream (writable.set_up Host mark size)) s in
     let at_i : i.0 ≡ length s.streams = ap (λ (l : StreamId). l.0) is ∙ at_end in
     let before = no_stream i s.streams at_i in
     let after : slice_get z.streams i.0 ≡ Some (WritableStream (writable.set_up Host mark size)) = rw at_i (place_last s.streams (WritableStream (writable.set_up Host mark size))) in
@@ -106,10 +109,10 @@ added_writable i j mark size start h s true e at_end tied k =
 
 -- calls
 
-renewed-lightens : (t : Table) (kept : Bool) → Lightens t (calls.with_renewed t kept)
+renewed-lightens : (t : Table) (kept : Bool) → Lightens t (lock_calls.with_renewed t kept)
 renewed-lightens t kept f = grind (arith, weigh-fresh)
 
-renewed-clear : (i : StreamId) (t : Table) (kept : Bool) (es : List Effect) → all (mass i) es ≡ 0 → all (mass i) (calls.reject_renewed t kept ++ es) ≡ 0
+renewed-clear : (i : StreamId) (t : Table) (kept : Bool) (es : List Effect) → all (mass i) es ≡ 0 → all (mass i) (lock_calls.reject_renewed t kept ++ es) ≡ 0
 renewed-clear i t kept es z = grind arith
 
 -- a pipe makes four promises, and begins with nothing that is under way
@@ -121,10 +124,10 @@ fresh_four t f =
     let c = weigh-fresh (of_reaction f) (fresh (fresh t)) in
     let d = weigh-fresh (of_reaction f) (fresh (fresh (fresh t))) in omega (arith, a, b, c, d)
 
-begins-mass : (i : StreamId) (me : PipeId) (p q : PromiseId) (signal : Option SignalId) (reason : Option Plain) → all (mass i) (calls.pipe_begins me p q signal reason) ≡ 0
+begins-mass : (i : StreamId) (me : PipeId) (p q : PromiseId) (signal : Option SignalId) (reason : Option Plain) → all (mass i) (pipe_calls.pipe_begins me p q signal reason) ≡ 0
 begins-mass i me p q signal reason = grind arith
 
-pipe_to-mass : (i source dest : StreamId) (prevent : Prevent) (signal : Option SignalId) (s : Slots) → all (mass i) (calls.pipe_to source dest prevent signal s).done.caused ≡ 0
+pipe_to-mass : (i source dest : StreamId) (prevent : Prevent) (signal : Option SignalId) (s : Slots) → all (mass i) (pipe_calls.pipe_to source dest prevent signal s).done.caused ≡ 0
 pipe_to-mass i source dest prevent signal s = grind (arith, begins-mass)
 
 -- a half is made of which nothing has happened
@@ -141,7 +144,7 @@ module _ (i : StreamId) (h : Writes) (kind : Kind) (m n : ℕ) (start : StartBy)
   Second = ReadableStream (readable.set_up (HalfOf (record { 0 = length s.transforms })) n Count)
 
   abbrev Made : Begun
-  Made = calls.make_transform kind m n start (record { 0 = length s.streams }) (record { 0 = length s.streams + 1 }) s
+  Made = making_calls.make_transform kind m n start (record { 0 = length s.streams }) (record { 0 = length s.streams + 1 }) s
 
   made-mass : is_same i (record { 0 = length s.streams }) ≡ false → all (mass i) Made.done.caused ≡ 0
   made-mass e = grind (arith, e)
@@ -153,10 +156,10 @@ module _ (i : StreamId) (h : Writes) (kind : Kind) (m n : ℕ) (start : StartBy)
   none_handed : all (hands i) Made.done.caused ≡ 0
   none_handed = handed_by start
     where
-      handed_by : (by : StartBy) → all (hands i) (calls.make_transform kind m n by (record { 0 = length s.streams }) (record { 0 = length s.streams + 1 }) s).done.caused ≡ 0
+      handed_by : (by : StartBy) → all (hands i) (making_calls.make_transform kind m n by (record { 0 = length s.streams }) (record { 0 = length s.streams + 1 }) s).done.caused ≡ 0
       handed_by by = grind arith
 
-  start_leads : (f : Step → ℕ) (p : PromiseId) (j : StreamId) (by : StartBy) → leads_to f (calls.start_transform p j by) ≡ 0
+  start_leads : (f : Step → ℕ) (p : PromiseId) (j : StreamId) (by : StartBy) → leads_to f (making_calls.start_transform p j by) ≡ 0
   start_leads f p j Now = refl
   start_leads f p j Later = refl
 
@@ -167,7 +170,7 @@ module _ (i : StreamId) (h : Writes) (kind : Kind) (m n : ℕ) (start : StartBy)
   none_closed : all (closes i) Made.done.caused ≡ 0
   none_closed = closed_by start
     where
-      closed_by : (by : StartBy) → all (closes i) (calls.make_transform kind m n by (record { 0 = length s.streams }) (record { 0 = length s.streams + 1 }) s).done.caused ≡ 0
+      closed_by : (by : StartBy) → all (closes i) (making_calls.make_transform kind m n by (record { 0 = length s.streams }) (record { 0 = length s.streams + 1 }) s).done.caused ≡ 0
       closed_by by = grind arith
 
   new_half-fine : (d : List Value) → Unmade i h s [] → Fine (with_effects i (among i s.promises) []) (so_far i h [] no_writable) d (core_of no_writable)
@@ -220,7 +223,7 @@ abbrev branch : Slots → Half → readable.Slots
 branch s half = readable.set_up (BranchOf (record { 0 = length s.tees }) half) 1 Count
 
 abbrev tee_made : StreamId → Slots → Done
-tee_made source s = (calls.make_tee source (record { 0 = length s.streams }) (record { 0 = length s.streams + 1 }) s).done
+tee_made source s = (making_calls.make_tee source (record { 0 = length s.streams }) (record { 0 = length s.streams + 1 }) s).done
 
 pub tee-place : (i source : StreamId) (s : Slots) → let z : Slots = (tee_made source s).slots in (slice_get z.streams i.0 ≡ None → slice_get s.streams i.0 ≡ None) × (writable_at i z ≡ writable_at i s)
 tee-place i source s =
@@ -278,29 +281,29 @@ module _ (i j : StreamId) (c : PortId) (h : Writes) (s z : Slots) (rest : List E
       let p = readable_added i s.streams (readable.set_up (EndOf c) 0 Count) (nat_eq i.0 (length s.streams)) refl in
       clear-kept i h s z (StartAlgorithm j (ReadableStart j) Now ∷ rest) (λ n. p.0 (rw streams at n)) (ap (λ (xs : List Stream). as_writable (slice_get xs i.0)) streams ∙ p.1) l (omega (arith, m)) tied k
 
-open-kept : (i : StreamId) (h : Writes) (s : Slots) (side : Side) → let d : Done = (calls.open_end side (record { 0 = length s.streams }) s).done in Tied d.slots → Kept i h s [] → Kept i h d.slots d.caused
+open-kept : (i : StreamId) (h : Writes) (s : Slots) (side : Side) → let d : Done = (pipe_calls.open_end side (record { 0 = length s.streams }) s).done in Tied d.slots → Kept i h s [] → Kept i h d.slots d.caused
 open-kept i h s ReadableSide tied k =
-    readable_end-kept i (record { 0 = length s.streams }) (record { 0 = length s.ports }) h s (calls.add_port (record { 0 = length s.streams }) s ReadableSide) [] (same_weight s.promises) refl refl tied k
+    readable_end-kept i (record { 0 = length s.streams }) (record { 0 = length s.ports }) h s (pipe_calls.add_port (record { 0 = length s.streams }) s ReadableSide) [] (same_weight s.promises) refl refl tied k
 open-kept i h s WritableSide tied k =
     let j : StreamId = record { 0 = length s.streams } in
-    writable_end-kept i j (record { 0 = length s.ports }) h s (calls.add_port j s WritableSide) [] (lightens-fresh s.promises) refl (is_same i j) refl refl refl tied k
+    writable_end-kept i j (record { 0 = length s.ports }) h s (pipe_calls.add_port j s WritableSide) [] (lightens-fresh s.promises) refl (is_same i j) refl refl refl tied k
 
 -- and a pipe with it
 
-send_readable-kept : (i source : StreamId) (h : Writes) (s : Slots) → let d : Done = (calls.send_readable source (record { 0 = length s.streams }) s).done in Tied d.slots → Kept i h s [] → Kept i h d.slots d.caused
+send_readable-kept : (i source : StreamId) (h : Writes) (s : Slots) → let d : Done = (pipe_calls.send_readable source (record { 0 = length s.streams }) s).done in Tied d.slots → Kept i h s [] → Kept i h d.slots d.caused
 send_readable-kept i source h s tied k =
     let j : StreamId = record { 0 = length s.streams } in
-    let a : Slots = calls.add_port j s WritableSide in
-    let d : Done = (calls.pipe_to source j calls.no_prevent None a).done in
+    let a : Slots = pipe_calls.add_port j s WritableSide in
+    let d : Done = (pipe_calls.pipe_to source j pipe_calls.no_prevent None a).done in
     writable_end-kept i j (record { 0 = length s.ports }) h s d.slots d.caused (lightly s.promises (fresh s.promises) d.slots.promises (lightens-fresh s.promises) (fresh_four (fresh s.promises)))
-    (pipe_to-mass i source j calls.no_prevent None a) (is_same i j) refl refl refl tied k
+    (pipe_to-mass i source j pipe_calls.no_prevent None a) (is_same i j) refl refl refl tied k
 
-send_writable-kept : (i dest : StreamId) (h : Writes) (s : Slots) → let d : Done = (calls.send_writable dest (record { 0 = length s.streams }) s).done in Tied d.slots → Kept i h s [] → Kept i h d.slots d.caused
+send_writable-kept : (i dest : StreamId) (h : Writes) (s : Slots) → let d : Done = (pipe_calls.send_writable dest (record { 0 = length s.streams }) s).done in Tied d.slots → Kept i h s [] → Kept i h d.slots d.caused
 send_writable-kept i dest h s tied k =
     let j : StreamId = record { 0 = length s.streams } in
-    let a : Slots = calls.add_port j s ReadableSide in
-    let d : Done = (calls.pipe_to j dest calls.no_prevent None a).done in
-    readable_end-kept i j (record { 0 = length s.ports }) h s d.slots d.caused (fresh_four s.promises) (pipe_to-mass i j dest calls.no_prevent None a) refl tied k
+    let a : Slots = pipe_calls.add_port j s ReadableSide in
+    let d : Done = (pipe_calls.pipe_to j dest pipe_calls.no_prevent None a).done in
+    readable_end-kept i j (record { 0 = length s.ports }) h s d.slots d.caused (fresh_four s.promises) (pipe_to-mass i j dest pipe_calls.no_prevent None a) refl tied k
 
 pub call-kept : (i : StreamId) (h : Writes) (s : Slots) (c : Call) → Kept i h s [] → Kept i h (begin c s).done.slots (begin c s).done.caused
 call-kept i h s c k =
@@ -324,9 +327,9 @@ call-kept i h s c k =
       release_reader = λ l closed j e o. still-kept i h s _ _ refl (renewed-lightens s.promises (readable.is_readable (source_at j s).state)) (renewed-clear i s.promises (readable.is_readable (source_at j s).state) _ refl) o k;
       release_writer = λ l j w e f o.
           let ready : Bool = is_pending_at w.ready s.promises in
-          let t : Table = calls.with_renewed s.promises ready in
+          let t : Table = lock_calls.with_renewed s.promises ready in
           let closed : Bool = is_pending_at w.closed t in
-          still-kept i h s _ _ refl (lightly s.promises t (calls.with_renewed t closed) (renewed-lightens s.promises ready) (renewed-lightens t closed))
+          still-kept i h s _ _ refl (lightly s.promises t (lock_calls.with_renewed t closed) (renewed-lightens s.promises ready) (renewed-lightens t closed))
           (renewed-clear i s.promises ready _ (renewed-clear i t closed (Writable j ReleaseWriter ∷ []) refl)) o k;
       cancel = λ reason j o. still-kept i h s _ _ refl (lightens-fresh s.promises) refl o k;
       read = λ l j closed e f o. still-kept i h s _ _ refl (lightens-fresh s.promises) refl o k;
@@ -426,11 +429,11 @@ hosted_at i s host = hosted-owner (slice_get s.streams i.0) host
 
 -- a stream that was there before is the same, and one that wasn't is nobody's but the host's
 
-before : (s : Slots) (y : Stream) (i : StreamId) (o : Option Stream) → slice_get s.streams i.0 ≡ o → owner_at i (calls.add_stream y s) ≡ Host → owner_at i s ≡ Host
+before : (s : Slots) (y : Stream) (i : StreamId) (o : Option Stream) → slice_get s.streams i.0 ≡ o → owner_at i (making_calls.add_stream y s) ≡ Host → owner_at i s ≡ Host
 before s y i None is h = rw is refl
 before s y i (Some x) is h = rw is (rw (get-stays s.streams (y ∷ []) i.0 x is) at h)
 
-port-owner : (i : StreamId) (s : Slots) (side : Side) → owner_at i (calls.add_port (record { 0 = length s.streams }) s side) ≡ Host → owner_at i (calls.add_stream (calls.end_of (record { 0 = length s.ports }) side) s) ≡ Host
+port-owner : (i : StreamId) (s : Slots) (side : Side) → owner_at i (pipe_calls.add_port (record { 0 = length s.streams }) s side) ≡ Host → owner_at i (making_calls.add_stream (pipe_calls.end_of (record { 0 = length s.ports }) side) s) ≡ Host
 port-owner i s ReadableSide o = o
 port-owner i s WritableSide o = o
 
@@ -456,11 +459,11 @@ call-was i first s c k = each_call (λ (b : Begun). WasHost i first b.done.slots
   make_transform = λ kind m n start o.
       let w : Stream = WritableStream (writable.set_up (HalfOf (record { 0 = length s.transforms })) m Count) in
       let r : Stream = ReadableStream (readable.set_up (HalfOf (record { 0 = length s.transforms })) n Count) in
-      k (before s w i (slice_get s.streams i.0) refl (before (calls.add_stream w s) r i (slice_get (s.streams ++ w ∷ []) i.0) refl o));
+      k (before s w i (slice_get s.streams i.0) refl (before (making_calls.add_stream w s) r i (slice_get (s.streams ++ w ∷ []) i.0) refl o));
   make_tee = λ j c is free untied o.
       let x : Stream = ReadableStream (branch s FirstHalf) in
       let y : Stream = ReadableStream (branch s SecondHalf) in
-      k (before s x i (slice_get s.streams i.0) refl (before (calls.add_stream x s) y i (slice_get (s.streams ++ x ∷ []) i.0) refl o));
+      k (before s x i (slice_get s.streams i.0) refl (before (making_calls.add_stream x s) y i (slice_get (s.streams ++ x ∷ []) i.0) refl o));
   get_reader = λ j e. k;
   get_writer = λ j e. k;
   release_reader = λ l closed j e. k;
@@ -479,9 +482,9 @@ call-was i first s c k = each_call (λ (b : Begun). WasHost i first b.done.slots
   terminate = λ t. k;
   pipe = λ source dest prevent signal e f l m. k;
   make_signal = k;
-  open_end = λ side o. k (before s (calls.end_of (record { 0 = length s.ports }) side) i (slice_get s.streams i.0) refl (port-owner i s side o));
-  send_readable = λ j there free o. k (before s (calls.end_of (record { 0 = length s.ports }) WritableSide) i (slice_get s.streams i.0) refl o);
-  send_writable = λ j there free o. k (before s (calls.end_of (record { 0 = length s.ports }) ReadableSide) i (slice_get s.streams i.0) refl o);
+  open_end = λ side o. k (before s (pipe_calls.end_of (record { 0 = length s.ports }) side) i (slice_get s.streams i.0) refl (port-owner i s side o));
+  send_readable = λ j there free o. k (before s (pipe_calls.end_of (record { 0 = length s.ports }) WritableSide) i (slice_get s.streams i.0) refl o);
+  send_writable = λ j there free o. k (before s (pipe_calls.end_of (record { 0 = length s.ports }) ReadableSide) i (slice_get s.streams i.0) refl o);
   deliver = λ p m e is. k;
   trigger = λ a reason. k;
   settle = λ a answer p e. k;

@@ -20,15 +20,18 @@ use Rattle.ws_steps.specs.Pipes.{write_chunk, write_held, write_in, with_slots}
 use Rattle.ws_steps.specs.Slots.{Slots, Stream, ReadableStream, WritableStream, Done, causes, empty, found, put_pipe, on_pipe_at, has_writable, writable_at, is_writable_stream, as_writable, lock_at}
 use Rattle.ws_steps.specs.Turns.{row, moments, Moment, performed}
 use Rattle.ws_steps.specs.Jobs.{job_effects, job_begun, begin_job, steps, resolved, returned}
-use Rattle.ws_steps.specs.Calls.{Begun, begin, unsupported, by_writer}
-use Rattle.ws_steps.specs.Calls as calls
+use Rattle.ws_steps.specs.Begun.{Begun, unsupported}
+use Rattle.ws_steps.specs.LockCalls.{by_writer}
+use Rattle.ws_steps.specs.Calls.{begin}
+use Rattle.ws_steps.specs.Begun as replying
+use Rattle.ws_steps.specs.LockCalls as lock_calls
 use Rattle.ws_steps.specs.Run.{Entry, Called, Worked, Heard, step, moments_in}
 use Rattle.ws_steps.specs.Histories.{is_same, along}
 use Rattle.ws_steps.specs.WritableHistory.{Writes, no_writes, writes_then, effect_writes, written_by, operation_writes, promised_by, effect_promised, operation_promised, step_writes, step_promised, run_writes, run_promised, written_with, call_written, answered_by, written_in_step, answered_in_step, written_from, piped_to, effect_piped, effect_piped_promised, step_piped, step_piped_promised, written_in_run, answered_in_run}
 use Rattle.ws_steps.specs.Laws.{WritesWereAnswered}
 use Rattle.ws_laws.proofs.Tables.{either}
 use Rattle.ws_laws.proofs.Lists.{Each, each-append, each-map}
-use Rattle.ws_laws.proofs.Rows.{row-causes}
+use Rattle.ws_laws.proofs.Causes.{row-causes}
 use Rattle.ws_laws.proofs.EachCall.{each_call}
 use Rattle.ws_laws.proofs.Walker.{IsHistory, performed-goes}
 use Rattle.ws_write_laws.proofs.Piped.{Quiet, quiet-causes, row-quiet}
@@ -263,22 +266,22 @@ Begins i vs b = Told i vs (answered_by vs b.reply) none_said b.done.slots b.done
 none-begins : (i : StreamId) (vs : List Value) (b : Begun) → vs ≡ [] → Each Quiet b.done.caused → Begins i vs b
 none-begins i vs b none q = rw none (quiet-begins i b.done q)
 
-appended : (i j : StreamId) (v : Value) (s : Slots) → Begins i (if is_same i j then written_by v (writable_at j s) else []) (calls.write v j s)
+appended : (i j : StreamId) (v : Value) (s : Slots) → Begins i (if is_same i j then written_by v (writable_at j s) else []) (lock_calls.write v j s)
 appended i j v s =
     let vs : List Value = if is_same i j then written_by v (writable_at j s) else [] in
     let p : PromiseId = next_id s.promises in
     record { front = tt; written = sym (append-nil vs); promised = promised_is vs p ∙ sym (append-nil (answered_by vs (Promise p))) }
 
-write-begins : (i : StreamId) (v : Value) (s : Slots) (o : Option Lock) → Begins i (written_with i v s o) (by_writer (calls.write v) calls.rejected s o)
+write-begins : (i : StreamId) (v : Value) (s : Slots) (o : Option Lock) → Begins i (written_with i v s o) (by_writer (lock_calls.write v) replying.rejected s o)
 write-begins i v s None = none-begins i [] (unsupported s) refl tt
 write-begins i v s (Some (Reader stream closed)) = none-begins i [] (unsupported s) refl tt
 write-begins i v s (Some (ByobReader stream closed)) = none-begins i [] (unsupported s) refl tt
 write-begins i v s (Some (Writer j)) =
     let vs : List Value = if is_same i j then written_by v (writable_at j s) else [] in
-    either (Begins i vs) (has_writable j s) (calls.write v j s) (unsupported s)
+    either (Begins i vs) (has_writable j s) (lock_calls.write v j s) (unsupported s)
     (λ there. appended i j v s)
     (λ none. none-begins i vs (unsupported s) (either (λ (ws : List Value). ws ≡ []) (is_same i j) (written_by v (writable_at j s)) [] (λ same. absent v (slice_get s.streams j.0) none) (λ other. refl)) tt)
-write-begins i v s (Some (ReleasedWriter w)) = none-begins i [] (calls.rejected s) refl (tt, tt)
+write-begins i v s (Some (ReleasedWriter w)) = none-begins i [] (replying.rejected s) refl (tt, tt)
 write-begins i v s (Some Inner) = none-begins i [] (unsupported s) refl tt
 
 -- other calls, and jobs

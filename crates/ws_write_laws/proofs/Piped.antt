@@ -23,7 +23,7 @@ use Rattle.std.proofs.Common.{slice_get}
 use Rattle.ws_laws.proofs.Lists.{Each, each-append}
 use Rattle.ws_laws.proofs.TransformDoes.{TransformCauses}
 use Rattle.ws_laws.proofs.TeeDoes.{TeeCauses}
-use Rattle.ws_laws.proofs.Rows.{Causes, ChunkCauses, EndCauses, ErrorCauses, SignalCauses, row-causes}
+use Rattle.ws_laws.proofs.Causes.{Causes, ChunkCauses, EndCauses, ErrorCauses, SignalCauses, row-causes}
 use Rattle.ws_steps.specs.declared.effects.Effect.TheVariants.{Byte, CloseStepsWith}
 
 -- effects that neither write nor have a pipe write

@@ -12,7 +12,8 @@ use Rattle.ws_steps.specs.Writable as writable
 use Rattle.ws_steps.specs.Writable.{Acts, has_ended}
 use Rattle.ws_steps.specs.Slots.{Slots, Stream, ReadableStream, WritableStream, nothing, empty, with_promises, on_writable, put_writable, has_writable, writable_at, as_writable, no_writable}
 use Rattle.ws_steps.specs.Turns.{row, Moment}
-use Rattle.ws_steps.specs.Calls.{begin, add_stream}
+use Rattle.ws_steps.specs.MakingCalls.{add_stream}
+use Rattle.ws_steps.specs.Calls.{begin}
 use Rattle.ws_steps.specs.Run.{Entry, after_event, step, run, moments_in}
 use Rattle.ws_steps.specs.Histories.{is_same, along, in_step, over}
 use Rattle.ws_steps.specs.WritableHistory.{Writes, no_writes, writes_then, operation_writes, effect_writes, step_writes, run_writes, operation_promised, effect_promised, step_promised, run_promised}

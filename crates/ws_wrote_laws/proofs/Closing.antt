@@ -6,7 +6,8 @@ use Rattle.ws_steps.specs.declared.effects.{Effect.{Effect}, Owner.TheVariants.{
 use Rattle.ws_steps.specs.declared.pipes.{Phase.TheVariants.{Flowing}}
 use Rattle.ws_steps.specs.declared.promises.Job.{Job}
 use Rattle.ws_steps.specs.declared.readable.{ReadableState.{ReadableState}, ReadableState.TheVariants.{Readable, Closed, Errored}, SizeBy.TheVariants.{Count}}
-use Rattle.ws_steps.specs.Calls.{Begun, begin, named}
+use Rattle.ws_steps.specs.Begun.{Begun}
+use Rattle.ws_steps.specs.Calls.{begin, named}
 use Rattle.ws_steps.specs.Histories.{along}
 use Rattle.ws_steps.specs.Jobs.{job_effects, job_begun, begin_job}
 use Rattle.ws_steps.specs.Pipes as pipe

@@ -15,7 +15,8 @@ use Rattle.ws_steps.specs.declared.pipes.{Phase.{Phase}, Phase.TheVariants.{Over
 use Rattle.ws_steps.specs.declared.promises.{Job.{Job}, Job.TheVariants.{Reaction as ReactionJob, Follow, Settle as SettleJob, Micro as MicroJob}, Micro.TheVariants.{PipeLook, PipeWrite, PipeNoParts}, Step.{Step}}
 use Rattle.ws_steps.specs.declared.readable.{ReadRequest.{ReadRequest}, ReadRequest.TheVariants.{Promise, Pipe as PipeRequest, Tee as TeeRequest}}
 use Rattle.ws_steps.specs.declared.transform.TransformId.{TransformId}
-use Rattle.ws_steps.specs.Calls.{Begun, begin}
+use Rattle.ws_steps.specs.Begun.{Begun}
+use Rattle.ws_steps.specs.Calls.{begin}
 use Rattle.ws_steps.specs.Histories.{is_same, along}
 use Rattle.ws_steps.specs.Jobs.{job_effects, job_begun, begin_job}
 use Rattle.ws_steps.specs.Pipes as pipe
@@ -29,7 +30,7 @@ use Rattle.ws_room_laws.proofs.Turns.{moments_next}
 use Rattle.ws_laws.proofs.EachCall.{each_call}
 use Rattle.ws_laws.proofs.Lists.{Each, each-append, append_cancel}
 use Rattle.ws_laws.proofs.PipeDoes.{PipeCauses}
-use Rattle.ws_laws.proofs.Rows.{Causes, ChunkCauses, EndCauses, ErrorCauses, SignalCauses, row-causes}
+use Rattle.ws_laws.proofs.Causes.{Causes, ChunkCauses, EndCauses, ErrorCauses, SignalCauses, row-causes}
 use Rattle.ws_laws.proofs.Tables.{either, eq_numbers, unequal_numbers, is_same-refl, same_id}
 use Rattle.ws_laws.proofs.TransformDoes.{TransformCauses}
 use Rattle.ws_laws.proofs.TeeDoes.{TeeCauses}

@@ -18,7 +18,7 @@ use Rattle.ws_steps.specs.Slots.{Slots, Done, nothing, empty, ends_at, as_pipe, 
 use Rattle.ws_steps.specs.Turns.{Moment, row, moments}
 use Rattle.ws_steps.proofs.PromiseLaws.{slice_get-set_other}
 use Rattle.ws_laws.proofs.Begin.{begin-makes}
-use Rattle.ws_laws.proofs.Rows.{row-pipes}
+use Rattle.ws_laws.proofs.Apart.{row-pipes}
 use Rattle.ws_laws.proofs.Tables.{eq_numbers, unequal_numbers}
 use Rattle.ws_laws.proofs.Truth.{false_true}
 use Rattle.ws_laws.proofs.Walker.{GoesUntold, RestsUntold, performed-goes, run-holds}

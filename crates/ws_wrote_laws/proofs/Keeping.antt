@@ -21,7 +21,7 @@ use Rattle.ws_steps.specs.Writable.{has_ended}
 use Rattle.ws_steps.specs.WritableHistory.{Writes, no_writes, writes_then, effect_writes, run_writes}
 use Rattle.ws_steps.proofs.PromiseLaws.{slice_get-set_other}
 use Rattle.ws_laws.proofs.Begin.{begin-makes}
-use Rattle.ws_laws.proofs.Rows.{row-pipes, row-streams}
+use Rattle.ws_laws.proofs.Apart.{row-pipes, row-streams}
 use Rattle.ws_laws.proofs.Tables.{eq_numbers, unequal_numbers, same_id, readable_acts, writable_acts, on_readable-same, on_writable-other, on_writable-same}
 use Rattle.ws_laws.proofs.Walker.{Stays, GoesUntold, RestsUntold, run-stays, run-goes_untold}
 use Rattle.ws_writable_laws.proofs.Agenda.{Kept}

@@ -39,7 +39,8 @@ use Rattle.ws_steps.specs.Turns.{row}
 use Rattle.ws_steps.proofs.PromiseLaws.{slice_get-set_other}
 use Rattle.ws_laws.proofs.Lists.{Each, each-append, each-map}
 use Rattle.ws_laws.proofs.PipeDoes.{is_looking, IsQuiet, pipe-quiet, pipe-causes}
-use Rattle.ws_laws.proofs.Rows.{Causes, ChunkCauses, EndCauses, ErrorCauses, SignalCauses, IsNoPipe, row-causes, row-pipes, row-streams}
+use Rattle.ws_laws.proofs.Apart.{IsNoPipe, row-pipes, row-streams}
+use Rattle.ws_laws.proofs.Causes.{Causes, ChunkCauses, EndCauses, ErrorCauses, SignalCauses, row-causes}
 use Rattle.ws_steps.specs.Turns.{on_source}
 use Rattle.ws_laws.proofs.Tables.{either, same_id, eq_numbers, unequal_numbers, readable_acts, byte_acts, on_readable-same, on_readable-other, on_byte-same, on_byte-other, on_writable-source}
 use Rattle.ws_laws.proofs.TransformDoes.{TransformCauses}
