@@ -1,4 +1,4 @@
-//! The output of a process held back: what it takes goes out once its buffer is full, once it is flushed, and before the process reads or writes anything else. So many small writes are one call of the system, and so are many small reads of its input.
+//! The output of a process held back: what it takes goes out once its buffer is full, once it is flushed, before the system is asked for more input, and before a write of the notes. So many small writes are one call of the system, and so are many small reads of its input.
 ghost use Rattle.std.specs.Prelude.{◌≡◌, ◌⊎◌, [], OnOk};
 ghost use Rattle.std.specs.Io.{WritesAtMost};
 ghost use Rattle.std.specs.Io.Buffered.{reader_buffer, reader_inner, writer_buffer, writer_contents, writer_capacity};

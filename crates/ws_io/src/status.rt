@@ -10,10 +10,10 @@ use itoa::{Buffer, Integer};
 /// How a command ended.
 #[derive(Clone, Copy, Debug, PartialEq, Eq)]
 pub enum Status {
-    /// The run, script, check or generation is complete.
+    /// The run, script or check is complete.
     Done,
 
-    /// The stage of this index ended badly, with its own code and the place in its input.
+    /// The stage of this index, from 1, is bad, with its own code, at this place, from 0, of its own input.
     Stage { index: u32, code: u8, place: u128 },
 
     /// The words have none of the program's forms.

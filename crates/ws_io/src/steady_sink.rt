@@ -29,7 +29,7 @@ impl Model for SteadySink {
 }
 
 impl SteadySink {
-    /// A sink whose write k takes at most the number at k of `most`; its last number holds on.
+    /// A sink whose write k, from 0, takes at most the number at k of `most`, whose last holds on.
     pub fn make(alloc: Global, most: &[u64]) -> Result<SteadySink, NoMemory>
         requires some { 0 < length most.now }
         requires each { All (λ n. 0 < n) most.now }

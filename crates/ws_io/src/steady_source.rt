@@ -26,7 +26,7 @@ impl Model for SteadySource {
 }
 
 impl SteadySource {
-    /// A source of these bytes, whose read k moves at most the number at k of `most`; its last number holds on.
+    /// A source of these bytes, whose read k, from 0, moves at most the number at k of `most`, whose last holds on.
     pub fn make(alloc: Global, bytes: &[u8], most: &[u64]) -> Result<SteadySource, NoMemory>
         requires some { 0 < length most.now }
         requires each { All (λ n. 0 < n) most.now }

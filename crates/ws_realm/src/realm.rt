@@ -29,14 +29,14 @@ pub enum Why {
     Spent,
 }
 
-/// A call that wasn't performed is handed back, with the cause.
+/// A call that was refused, for want of memory or because the realm is spent. It is handed back (`call` is always there), with the cause.
 #[derive(Debug, Drop)]
 pub struct NoRoom {
     pub call: Option<Call>,
     pub why: Why,
 }
 
-/// A realm of readable, writable and transform streams, with their readers and writers, the BYOB requests of byte streams, its tees, its pipes and signals, its promises, its one job queue, and what its host hasn't heard of yet. It is seen as its slots, and whether all memory was taken that the next call or job can need.
+/// A realm of readable, writable and transform streams, with their readers and writers, the BYOB requests of byte streams, its tees, its message ports, its pipes and signals, its promises, its one job queue, and what its host hasn't heard of yet. It is seen as its slots, and whether all memory was taken that the next call or job can need.
 #[derive(Drop)]
 pub struct Realm {
     tables: Tables,

@@ -8,7 +8,7 @@ pub fn each_node_keeps_flow()
     ensures { EachNodeKeepsFlow }
 {}
 
-/// A node that does nothing goes on, and one that goes on and then goes on again, with the same kind of output, goes on: so what `Whole::turn` tells of each of several turns holds of all of them together, and from a new node on `each_node_keeps_flow` says what follows.
+/// What `Whole::turn` tells of a turn (`Went`) holds of no turn at all, and of two together where it holds of one and then of the other: so of any number of turns. What follows of it, from a new node on, `each_node_keeps_flow` says.
 pub fn each_turn_goes_on<K: Sink>()
     ensures { EachGoesOn K.got }
 {}
