@@ -1,5 +1,5 @@
 //! The output of a process held back: what it takes goes out once its buffer is full, once it is flushed, before the system is asked for more input, and before a write of the notes. So many small writes are one call of the system, and so are many small reads of its input.
-ghost use Rattle.std.specs.Prelude.{◌≡◌, ◌⊎◌, [], OnOk};
+ghost use Rattle.std.specs.Prelude.{◌≡◌, ◌⊎◌, ◌↔◌, [], true, IsErr, OnOk};
 ghost use Rattle.std.specs.Io.{WritesAtMost};
 ghost use Rattle.std.specs.Io.Buffered.{reader_buffer, reader_inner, writer_buffer, writer_contents, writer_capacity};
 ghost use Rattle.std.specs.Io.KnownBytes.{Keeps, WriteAppends};
@@ -53,6 +53,8 @@ impl<W: Write + Drop> Holding<W> {
         ensures bound { WritesAtMost result piece.now }
         ensures bytes { WriteAppends (writer_contents W.contents self.old.writer)
             (writer_contents W.contents self.new.writer) result piece.now }
+        ensures refuses { self.old.failed ≡ true → IsErr result }
+        ensures failed { self.new.failed ≡ self.old.failed }
     {
         if self.failed {
             return Err(Error::from(ErrorKind::Other));
@@ -60,11 +62,13 @@ impl<W: Write + Drop> Holding<W> {
         self.writer.write(piece)
     }
 
-    /// Writes all that is held, and asks again where that is interrupted.
+    /// Writes all that is held, and asks again where that is interrupted. Once it has failed it fails.
     fn empty(&mut self) -> Result<()>
         ensures bytes { Keeps (writer_contents W.contents self.old.writer)
             (writer_contents W.contents self.new.writer) }
         ensures all { OnOk result (writer_buffer self.new.writer ≡ []) }
+        ensures refuses { self.old.failed ≡ true → IsErr result }
+        ensures failed { IsErr result ↔ (self.new.failed ≡ true) }
     {
         if self.failed {
             return Err(Error::from(ErrorKind::Other));
