@@ -22,15 +22,15 @@ fn algorithm(kind: Kind, call: HostCall, step: Step) -> Effect
 impl Transform {
     /// TransformStreamDefaultSourcePullAlgorithm.
     #[tactic(auto, unfolding(ws_steps::specs::Transform::source_pull))]
-    pub fn source_pull(&mut self, p: &mut Promises, fx: &mut Agenda, u: Use)
+    pub fn source_pull(&mut self, p: &mut Promises, fx: &mut Agenda, u: &Use)
         requires promise_room { HasPromiseRoom 1 p.old }
         requires effect_room { HasEffectRoom 1 fx.old }
-        ensures row { acts_of self.new p.new fx.new ≡ rows.source_pull u (acts_of self.old p.old fx.old) }
+        ensures row { acts_of self.new p.new fx.new ≡ rows.source_pull u.now (acts_of self.old p.old fx.old) }
         ensures promise_room { p.new.room ≡ p.old.room }
         ensures effect_room { fx.new.capacity ≡ fx.old.capacity }
     {
         self.set_backpressure(p, false);
-        fx.push(Effect::Give(Gift::This(self.change), u));
+        fx.push(Effect::Give(Gift::This(self.change), *u));
     }
 
     /// TransformStreamDefaultSinkCloseAlgorithm.

@@ -74,39 +74,39 @@ impl Transform {
     }
 
     /// TransformStreamDefaultControllerPerformTransform, with the chunk that is first in the queue of the writable half.
-    fn perform_transform(&self, me: TransformId, p: &mut Promises, fx: &mut Agenda, u: Use)
+    fn perform_transform(&self, me: TransformId, p: &mut Promises, fx: &mut Agenda, u: &Use)
         requires promise_room { HasPromiseRoom 1 p.old }
         requires effect_room { HasEffectRoom 2 fx.old }
-        ensures row { acts_of self.now p.new fx.new ≡ rows.perform_transform me u (acts_of self.now p.old fx.old) }
+        ensures row { acts_of self.now p.new fx.new ≡ rows.perform_transform me u.now (acts_of self.now p.old fx.old) }
         ensures promise_room { p.new.room ≡ p.old.room }
         ensures effect_room { fx.new.capacity ≡ fx.old.capacity }
     {
         let promise = p.fresh();
         let hand_on = WritableOperation::HandOn(Taker::ToTransform(me, promise));
         fx.push(Effect::Writable(self.writable, hand_on));
-        fx.push(Effect::Give(Gift::This(promise), u));
+        fx.push(Effect::Give(Gift::This(promise), *u));
     }
 
     /// The write waits for the change of the backpressure.
-    fn wait_for_change(&self, me: TransformId, p: &mut Promises, fx: &mut Agenda, u: Use)
+    fn wait_for_change(&self, me: TransformId, p: &mut Promises, fx: &mut Agenda, u: &Use)
         requires promise_room { HasPromiseRoom 1 p.old }
         requires effect_room { HasEffectRoom 2 fx.old }
-        ensures row { acts_of self.now p.new fx.new ≡ rows.wait_for_change me u (acts_of self.now p.old fx.old) }
+        ensures row { acts_of self.now p.new fx.new ≡ rows.wait_for_change me u.now (acts_of self.now p.old fx.old) }
         ensures promise_room { p.new.room ≡ p.old.room }
         ensures effect_room { fx.new.capacity ≡ fx.old.capacity }
     {
         let promise = p.fresh();
         let goes_on = Use::React(Step::TransformChanged(me, promise), None);
         fx.push(Effect::Give(Gift::This(self.change), goes_on));
-        fx.push(Effect::Give(Gift::This(promise), u));
+        fx.push(Effect::Give(Gift::This(promise), *u));
     }
 
     /// TransformStreamDefaultSinkWriteAlgorithm.
     #[tactic(auto, unfolding(ws_steps::specs::Transform::sink_write))]
-    pub fn sink_write(&self, me: TransformId, p: &mut Promises, fx: &mut Agenda, u: Use)
+    pub fn sink_write(&self, me: TransformId, p: &mut Promises, fx: &mut Agenda, u: &Use)
         requires promise_room { HasPromiseRoom 1 p.old }
         requires effect_room { HasEffectRoom 2 fx.old }
-        ensures row { acts_of self.now p.new fx.new ≡ rows.sink_write me u (acts_of self.now p.old fx.old) }
+        ensures row { acts_of self.now p.new fx.new ≡ rows.sink_write me u.now (acts_of self.now p.old fx.old) }
         ensures promise_room { p.new.room ≡ p.old.room }
         ensures effect_room { fx.new.capacity ≡ fx.old.capacity }
     {
@@ -140,7 +140,7 @@ impl Transform {
                 Err(*halves.writable_error),
             )),
             WritableState::Writable | WritableState::Errored | WritableState::Closed => {
-                self.perform_transform(me, p, fx, Use::Resolve(promise));
+                self.perform_transform(me, p, fx, &Use::Resolve(promise));
             }
         }
     }

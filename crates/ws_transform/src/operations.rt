@@ -86,10 +86,10 @@ impl Transform {
         ensures effect_room { fx.new.capacity ≡ fx.old.capacity }
     {
         match operation {
-            TransformOperation::SinkWrite(u) => self.sink_write(me, p, fx, *u),
+            TransformOperation::SinkWrite(u) => self.sink_write(me, p, fx, u),
             TransformOperation::Enqueue(chunk) => self.enqueue(me, fx, taken(chunk)),
             TransformOperation::Unblock => self.unblock(p),
-            TransformOperation::SourcePull(u) => self.source_pull(p, fx, *u),
+            TransformOperation::SourcePull(u) => self.source_pull(p, fx, u),
             _ => self.perform_uncommon(me, p, fx, operation),
         }
     }
