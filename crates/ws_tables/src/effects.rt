@@ -160,6 +160,7 @@ impl Tables {
     }
 
     /// Calls a host's algorithm: a new promise with a new number, which the host hears of, and what is done with the promise.
+    #[inline(never)]
     #[tactic(auto, using(crate::proofs::Places::fresh_jobs, crate::proofs::Places::fresh_events), unfolding(ws_steps::specs::Turns::row, ws_steps::specs::Turns::call_host))]
     fn call_host(&mut self, call: &mut HostCall, u: &Use)
         requires quiet { self.old.caused.effects ≡ [] }
@@ -336,6 +337,7 @@ impl Tables {
     }
 
     /// Performs the pull algorithm; that of a transform stream with the operation that it is.
+    #[inline(never)]
     fn pull(&mut self, i: StreamId)
         requires quiet { self.old.caused.effects ≡ [] }
         requires room { HasRoomForAll (effect.PullAlgorithm i ∷ reverse self.old.others.items) self.old }
@@ -352,6 +354,7 @@ impl Tables {
     }
 
     /// Performs the write algorithm; that of a transform stream or of the host with the operation that it is.
+    #[inline(never)]
     fn write(&mut self, i: StreamId)
         requires quiet { self.old.caused.effects ≡ [] }
         requires room { HasRoomForAll (effect.WriteAlgorithm i ∷ reverse self.old.others.items) self.old }
@@ -369,6 +372,7 @@ impl Tables {
     }
 
     /// Performs the chunk steps of a read request; those of a pipe's with the operation that they are.
+    #[inline(never)]
     fn hand_chunk(&mut self, i: StreamId, request: &ReadRequest, chunk: &mut Value)
         requires quiet { self.old.caused.effects ≡ [] }
         requires room { HasRoomForAll (effect.ChunkSteps i request.now chunk.old ∷ reverse self.old.others.items) self.old }
@@ -383,7 +387,7 @@ impl Tables {
         }
     }
 
-    /// Performs an effect where it stands. Where that causes but one, of a chunk's way through a pipe, it is performed as well: to put it on the agenda and to take it from there costs as much.
+    /// Performs an effect where it stands. Where that causes but one, of a chunk's way through a pipe, it is performed as well: to put it on the agenda and to take it from there costs as much. What is no operation of a record is performed in functions apart, so that this one has no locals and an operation is reached by a jump.
     #[inline(never)]
     pub(crate) fn perform_at(&mut self, effect: &mut Effect)
         requires quiet { self.old.caused.effects ≡ [] }

@@ -6,6 +6,9 @@ use crate::kinds::LIST_PLACES;
 use crate::tables::{Stream, Tables};
 use ws_value::{NoMemory, SignalId, StreamId};
 
+/// So few read requests, aborts and tees that the places for them are reckoned without a look for an overflow.
+const FEW: usize = 0x7fff_ffff;
+
 impl Tables {
     ghost use Rattle.ws_tables.specs.View.{slots_of};
 
@@ -67,15 +70,12 @@ impl Tables {
         requires resting { IsResting self.now }
         ensures { result ≡ true → IsPrepared self.now }
     {
-        let Some(base) = self.base() else {
+        if self.waiting > FEW || self.aborts > FEW || self.tees.len() > FEW {
             return false;
-        };
-        let Some(jobs) = base.checked_add(self.waiting) else {
-            return false;
-        };
-        let Some(turns) = jobs.checked_add(self.waiting) else {
-            return false;
-        };
+        }
+        let base = (self.aborts + self.tees.len()) * 15 + 34;
+        let jobs = base + self.waiting;
+        let turns = jobs + self.waiting;
         if !self.is_made() {
             return false;
         }
