@@ -1,5 +1,5 @@
 -- A host's answer that what it was asked is done.
-use Rattle.std.proofs.Common.{◌≡◌, ◌∙◌, [], ◌∷◌, Some, None, Ok, refl, ap}
+use Rattle.std.proofs.Common.{◌≡◌, ◌∙◌, [], Some, None, Ok, refl, ap}
 use Rattle.std.specs.Prelude.{slice_set}
 use Rattle.ws_value.specs.declared.ids.HostId.{HostId}
 use Rattle.ws_value.specs.declared.ids.PromiseId.{PromiseId}

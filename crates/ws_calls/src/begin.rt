@@ -1,19 +1,22 @@
 //! Calls and jobs whole: what they begin with, and all that comes of it.
-ghost use Rattle.std.specs.Prelude.{◌≡◌, ◌<◌, ◌≤◌, ◌+◌, ◌^◌, not, if◌then◌else◌};
+ghost use Rattle.std.specs.Prelude.{◌≡◌, ◌↔◌, true, ◌<◌, ◌≤◌, ◌+◌, ◌^◌, not, if◌then◌else◌};
 ghost use Rattle.ws_promise.specs.Seen.{HasEventRoom};
 ghost use Rattle.ws_steps.specs.Calls as calls;
 ghost use Rattle.ws_steps.specs.Run as run;
 ghost use Rattle.ws_steps.specs.declared.calls.Call.TheVariants as call;
+ghost use Rattle.ws_steps.specs.declared.calls.Reply.TheVariants.{Done};
 ghost use Rattle.ws_tables.specs.Room.{IsPrepared, IsResting, PerformsAll};
 ghost use Rattle.ws_tables.specs.View.{slots_of};
 ghost use Rattle.ws_calls.specs.Begin.{Answers, CanBegin, CanMake, IsBegun, IsSameBeside};
 
 use crate::first::begin_first;
 use crate::jobs::begin_job;
+use crate::replies::UNSUPPORTED;
 use crate::settled::settle_done;
 use crate::{byob, controllers, locks, pipes, ports, readers, streams, tees, transforms, writers};
 use ws_steps::{Answer, Call, Reply};
 use ws_tables::Tables;
+use ws_value::{StreamId, Value};
 
 #[tactic(auto, unfolding(ws_steps::specs::Calls::begin))]
 fn step(tables: &mut Tables) -> Reply
@@ -126,6 +129,23 @@ fn perform_uncommon_call(tables: &mut Tables, call: Call) -> Reply
     reply
 }
 
+/// Performs the enqueuing of a chunk with all that comes of it. Whether the stream took the chunk: it doesn't where the call throws.
+pub fn perform_enqueue(tables: &mut Tables, i: StreamId, chunk: Value) -> bool
+    requires prepared { IsPrepared tables.old }
+    requires resting { IsResting tables.old }
+    requires young { tables.old.age < 2 ^ 62 }
+    ensures done { (result ≡ true) ↔ (run.reply_to (call.Enqueue i chunk) (slots_of tables.old) ≡ Done) }
+    ensures slots { slots_of tables.new ≡ run.after_call (call.Enqueue i chunk) (slots_of tables.old) }
+    ensures resting { IsResting tables.new }
+    ensures age { tables.new.age ≡ tables.old.age + 1 }
+{
+    let reply = controllers::enqueue(tables, i, chunk);
+    tables.perform_effects();
+    name(tables, reply);
+    tables.age += 1;
+    reply == Reply::Done
+}
+
 /// Performs a call with all that comes of it, in the places that there are.
 pub fn perform_call(tables: &mut Tables, call: Call) -> Reply
     requires prepared { IsPrepared tables.old }
@@ -137,7 +157,13 @@ pub fn perform_call(tables: &mut Tables, call: Call) -> Reply
     ensures age { tables.new.age ≡ tables.old.age + 1 }
 {
     match call {
-        Call::Settle(h, Answer::Ok) => settle_done(tables, h),
+        Call::Settle(h, Answer::Ok) => {
+            if settle_done(tables, h) {
+                Reply::Done
+            } else {
+                UNSUPPORTED
+            }
+        }
         _ => perform_uncommon_call(tables, call),
     }
 }

@@ -1,6 +1,6 @@
 //! The calls and jobs of a realm, over its tables: what each begins with, and all that comes of it.
 //!
-//! A call is its checks in their order, what it answers and makes, and the first effects that it causes: these stand in a file for each kind of object that is asked (`streams`, `transforms`, `tees`, `readers`, `byob`, `writers`, `locks`, `controllers`, `pipes`, `ports`). `jobs` has the first effects of a job, and `first` performs the one effect of a job that each chunk meets, as `settled` performs the call of a host that is done. `begin` performs a call or a job whole, in memory that was taken before.
+//! A call is its checks in their order, what it answers and makes, and the first effects that it causes: these stand in a file for each kind of object that is asked (`streams`, `transforms`, `tees`, `readers`, `byob`, `writers`, `locks`, `controllers`, `pipes`, `ports`). `jobs` has the first effects of a job, and `first` performs the one effect of a job that each chunk meets, as `settled` performs the call of a host that is done. `begin` performs a call or a job whole, and the enqueuing of a chunk without a call made of it, in memory that was taken before.
 #![tactic(auto)]
 
 mod begin;
@@ -19,4 +19,5 @@ mod tees;
 mod transforms;
 mod writers;
 
-pub use begin::{perform_call, perform_job};
+pub use begin::{perform_call, perform_enqueue, perform_job};
+pub use settled::settle_done;

@@ -1,6 +1,8 @@
 //! A realm.
 ghost use Rattle.std.specs.Prelude.{◌≡◌, ◌+◌, ◌<◌, ◌≤◌, ◌≢◌, ◌↔◌, ◌^◌, true, false, not, length, option_map, IsOk, IfOk, OnOk, IfErr, OnErr, Ok, Err, Some, None, IsErrAnd, if◌then◌else◌};
 ghost use Rattle.ws_steps.specs.Promises as table;
+ghost use Rattle.ws_steps.specs.declared.calls.Answer.TheVariants as answer;
+ghost use Rattle.ws_steps.specs.declared.calls.Call.TheVariants as call;
 ghost use Rattle.ws_steps.specs.declared.calls.Reply.TheVariants as reply;
 ghost use Rattle.ws_steps.specs.declared.calls.Thrown.{Thrown};
 ghost use Rattle.ws_steps.specs.Laws.{errs};
@@ -12,10 +14,10 @@ ghost use Rattle.ws_realm.specs.declared.realm.Why.TheVariants as why;
 
 use std::alloc::Global;
 use std::marker::Model;
-use ws_calls::{perform_call, perform_job};
+use ws_calls::{perform_call, perform_enqueue, perform_job, settle_done};
 use ws_steps::{Call, Event, Reply};
 use ws_tables::Tables;
-use ws_value::{NoMemory, Outcome, Plain, PortId, PromiseId, TeeId};
+use ws_value::{HostId, NoMemory, Outcome, Plain, PortId, PromiseId, StreamId, TeeId, Value};
 
 /// The most calls and jobs of a realm.
 const OLDEST: u64 = 1 << 62;
@@ -111,6 +113,34 @@ impl Realm {
         }
         self.prepared = false;
         Ok(perform_call(&mut self.tables, call))
+    }
+
+    /// Performs `Call::Enqueue` without making a call and a reply of it, as each chunk meets it. Whether the stream took the chunk: it doesn't where the call throws. A refusal changes nothing and drops the chunk: who would have it back makes the call, or prepares before.
+    pub fn enqueue(&mut self, i: StreamId, chunk: Value) -> Result<bool, Why>
+        ensures done { IfOk result (λ done. (done ≡ true) ↔ (run.reply_to (call.Enqueue i chunk) self.old.slots ≡ reply.Done)) }
+        ensures slots { OnOk result (self.new.slots ≡ run.after_call (call.Enqueue i chunk) self.old.slots) }
+        ensures spent { (result ≡ Err why.Spent) ↔ (self.old.slots.age ≡ oldest) }
+        ensures untouched { OnErr result (self.new ≡ self.old) }
+        ensures prepared { self.old.prepared ≡ true → IsOk result }
+    {
+        self.prepare()?;
+        self.prepared = false;
+        Ok(perform_enqueue(&mut self.tables, i, chunk))
+    }
+
+    /// Performs `Call::Settle` with `Answer::Ok` without making a call and a reply of it, as each chunk meets it. Whether the host had been asked so, and hadn't answered: else the call throws. It takes no memory, so the one refusal is that of a spent realm, which changes nothing.
+    pub fn settle_done(&mut self, h: HostId) -> Result<bool, Why>
+        ensures done { IfOk result (λ done. (done ≡ true) ↔ (run.reply_to (call.Settle h answer.Ok) self.old.slots ≡ reply.Done)) }
+        ensures slots { OnOk result (self.new.slots ≡ run.after_call (call.Settle h answer.Ok) self.old.slots) }
+        ensures spent { (result ≡ Err why.Spent) ↔ (self.old.slots.age ≡ oldest) }
+        ensures alone { IfErr result (λ refused. refused ≡ why.Spent) }
+        ensures untouched { OnErr result (self.new ≡ self.old) }
+    {
+        if self.tables.age == OLDEST {
+            return Err(Why::Spent);
+        }
+        self.prepared = false;
+        Ok(settle_done(&mut self.tables, h))
     }
 
     /// Performs the first job with all that it causes. False says that no job is queued, and then no memory is taken. A refusal changes nothing.

@@ -148,13 +148,6 @@ impl Node {
         }
     }
 
-    /// What was asked is done.
-    fn settle(&mut self, id: HostId)
-        ensures { Asks (settles id) self.old self.new }
-    {
-        self.ask(Call::Settle(id, Answer::Ok))
-    }
-
     /// What was asked has failed.
     fn fail(&mut self, id: HostId, fault: Fault)
         ensures { Asks (fails id fault) self.old self.new }
@@ -221,7 +214,7 @@ impl Node {
             self.input = Input::TooLong;
             return self.ask(Call::Fail(SOURCE, Plain::Fault(Fault::TooMuch)));
         }
-        self.ask(Call::Enqueue(SOURCE, Value::Bytes(chunk)))
+        let _taken = self.enqueue(SOURCE, chunk);
     }
 
     /// A chunk that came to a stage is pushed. A stage that is over is asked nothing more, and nothing is answered for it.

@@ -4,7 +4,7 @@ ghost use Rattle.ws_realm.specs.Seen.{oldest, outcome_named};
 ghost use Rattle.ws_realm.specs.declared.realm.Why.TheVariants as why;
 ghost use Rattle.ws_steps.specs.Run as steps;
 ghost use Rattle.ws_runner.specs.Ends.{EndsAs, IsNamed, status_of, unless_finished};
-ghost use Rattle.ws_runner.specs.Moves.{Asks, IsDoneBy, Works, fault_of, is_readable, is_writable, shut};
+ghost use Rattle.ws_runner.specs.Moves.{Asks, IsDoneBy, Works, fault_of, is_readable, is_writable, settles, shut};
 ghost use Rattle.ws_runner.specs.Node.{has_ended, has_settled, is_busy, outcome_of_pipe};
 ghost use Rattle.ws_runner.specs.Past.{Driven};
 ghost use Rattle.ws_steps.specs.declared.calls.Call.TheVariants.{Enqueue};
@@ -96,6 +96,18 @@ impl Node {
         }
     }
 
+    /// What the host was asked is done.
+    pub fn settle(&mut self, id: HostId)
+        ensures { Asks (settles id) self.old self.new }
+    {
+        if self.stopped.is_some() {
+            return;
+        }
+        if let Err(why) = self.realm.settle_done(id) {
+            self.stopped = Some(why);
+        }
+    }
+
     /// Enqueues a chunk. False says that the stream takes no more, or that the realm has stopped.
     pub fn enqueue(&mut self, stream: StreamId, chunk: Chunk) -> bool
         ensures asks { Asks (Enqueue stream (Bytes chunk)) self.old self.new }
@@ -104,8 +116,8 @@ impl Node {
         if self.stopped.is_some() {
             return false;
         }
-        match perform(&mut self.realm, Call::Enqueue(stream, Value::Bytes(chunk))) {
-            Ok(reply) => reply == Reply::Done,
+        match self.realm.enqueue(stream, Value::Bytes(chunk)) {
+            Ok(done) => done,
             Err(why) => {
                 self.stopped = Some(why);
                 false

@@ -1,4 +1,8 @@
 use Rattle.std.proofs.Common.{◌≡◌, ◌∙◌, Ok, refl, sym, Some, None}
+use Rattle.std.proofs.lemmas.Bool.{false≢true}
+use Rattle.ws_steps.specs.declared.calls.Reply.TheVariants.{Done, Throws}
+use Rattle.ws_steps.specs.declared.calls.Thrown.{Thrown}
+use Rattle.ws_steps.specs.declared.calls.Thrown.TheVariants.{Unsupported}
 use Rattle.ws_value.specs.declared.value.Plain.TheVariants.{Undefined}
 use Rattle.ws_steps.specs.Slots.{host_at}
 use Rattle.ws_tables.specs.View.{slots_of}
@@ -7,11 +11,19 @@ use Rattle.ws_tables.proofs.Places.{kept_beside}
 use Rattle.ws_calls.proofs.Answered.{done-reply, done-slots, none-reply, none-slots}
 use Rattle.ws_calls.proofs.settled.settle_done.Goals as goal
 
+throws-not_done : (t : Thrown) → Throws t ≡ Done → ⊥
+throws-not_done t h = cc
+
 none : (c : goal.In_default) → host_at c.args.h (slots_of c.args.tables.now) ≡ None
 none c = sym c.host.ensures.host ∙ c.in_default.is
 
-pub returns-in_default-clause-reply : goal.returns-in_default-clause-reply
-returns-in_default-clause-reply c = sym (none-reply c.args.h (slots_of c.args.tables.now) (none c))
+pub returns-in_default-clause-done : goal.returns-in_default-clause-done
+returns-in_default-clause-done c =
+    let reply = none-reply c.args.h (slots_of c.args.tables.now) (none c) in
+    (λ h. absurd (false≢true h), λ h. absurd (throws-not_done Unsupported (sym reply ∙ h)))
+
+pub returns-in_default-clause-none : goal.returns-in_default-clause-none
+returns-in_default-clause-none c = λ h. none-reply c.args.h (slots_of c.args.tables.now) (none c)
 
 pub returns-in_default-clause-slots : goal.returns-in_default-clause-slots
 returns-in_default-clause-slots c = sym (none-slots c.args.h (slots_of c.args.tables.now) (none c))
@@ -19,8 +31,8 @@ returns-in_default-clause-slots c = sym (none-slots c.args.h (slots_of c.args.ta
 there : (c : goal.After-fulfil) → host_at c.args.h (slots_of c.args.tables.now) ≡ Some c.in-Some.promise
 there c = sym (rw c.in-Some.is at c.host.ensures.host)
 
-pub returns-clause-reply : goal.returns-clause-reply
-returns-clause-reply c = sym (done-reply c.args.h c.in-Some.promise (slots_of c.args.tables.now) (there c))
+pub returns-clause-done : goal.returns-clause-done
+returns-clause-done c = (λ h. done-reply c.args.h c.in-Some.promise (slots_of c.args.tables.now) (there c), λ h. refl)
 
 pub returns-clause-slots : goal.returns-clause-slots
 returns-clause-slots c = rw (c.fulfil.ensures, c.settled.ensures) (sym (done-slots c.args.h c.in-Some.promise (slots_of c.args.tables.now) (there c)))

@@ -10,10 +10,10 @@ returns-then-is_some-clause-asks c = asks-stopped (Enqueue c.args.stream (Bytes 
 
 pub returns-in-Ok-clause-asks : goal.returns-in-Ok-clause-asks
 returns-in-Ok-clause-asks c =
-    asks-performed (Enqueue c.args.stream (Bytes c.args.chunk)) c.args.self.now c.perform.new.realm (sym c.is_some.ensures ∙ c.if-is_some.false) c.in-Ok.ensures.slots
-    (λ old. not-refused c.perform.result c.in-Ok.reply Spent c.in-Ok.is (c.perform.ensures.spent.1 old))
+    asks-performed (Enqueue c.args.stream (Bytes c.args.chunk)) c.args.self.now c.enqueue.new.self (sym c.is_some.ensures ∙ c.if-is_some.false) c.in-Ok.ensures.slots
+    (λ old. not-refused c.enqueue.result c.in-Ok.done Spent c.in-Ok.is (c.enqueue.ensures.spent.1 old))
 
 pub returns-in-Err-clause-asks : goal.returns-in-Err-clause-asks
 returns-in-Err-clause-asks c =
-    asks-refused (Enqueue c.args.stream (Bytes c.args.chunk)) c.args.self.now c.perform.new.realm c.in-Err.why (sym c.is_some.ensures ∙ c.if-is_some.false) c.in-Err.ensures.refused
-    (λ e. c.perform.ensures.spent.0 (c.in-Err.is ∙ ap Err e))
+    asks-refused (Enqueue c.args.stream (Bytes c.args.chunk)) c.args.self.now c.enqueue.new.self c.in-Err.why (sym c.is_some.ensures ∙ c.if-is_some.false) c.in-Err.ensures.untouched
+    (λ e. c.enqueue.ensures.spent.0 (c.in-Err.is ∙ ap Err e))

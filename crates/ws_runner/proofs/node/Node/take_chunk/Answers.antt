@@ -11,4 +11,4 @@ returns-then-self c =
 
 pub returns : goal.returns
 returns c =
-    takes-some c.args.chunk c.len-count.result c.args.self.now c.ask-2.new.self c.is_empty.result c.is_empty.ensures c.if-is_empty.false c.len-count.ensures c.if-self.false c.ask-2.ensures
+    takes-some c.args.chunk c.len-count.result c.args.self.now c.enqueue-taken.new.self c.is_empty.result c.is_empty.ensures c.if-is_empty.false c.len-count.ensures c.if-self.false c.enqueue-taken.ensures.asks
