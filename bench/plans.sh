@@ -1,14 +1,15 @@
 #!/bin/sh
 # Runs four pipelines over text in lines of about 80 bytes by `./streams run FILE`, beside the usual tool where there is one and,
 # where node is there, beside the same stages written for Node's own Web Streams (reads of 4,096 bytes), in one run: `lines` and
-# `number`, `hex`, `mask`, and four transform streams in a row. Prints each one's best of three times, its rate, the chunks that
-# pass its stages in a second, its peak memory, and how many times Node's rate `./streams run` has. Each output is compared with
-# Node's, and the usual tool's by its bytes. Word: the input's MiB.
+# `number`, `hex`, `mask`, and four transform streams in a row. They take turns, five times each. Prints each one's median and best,
+# its rate and the chunks that pass its stages in a second by the median, its peak memory, and how many times Node's rate
+# `./streams run` has, by the medians and by the best. Each output is compared with Node's. Words: the input's MiB, and how many turns.
 set -eu
 root=$(CDPATH='' cd -- "$(dirname -- "$0")/.." && pwd)
 work=$(mktemp -d)
 trap 'rm -rf "$work"' EXIT
 mebibytes=${1:-64}
+turns=${2:-5}
 awk -v bytes="$((mebibytes * 1048576))" 'BEGIN {
     srand(7)
     for (line = 1; done < bytes; line += 1) {
@@ -21,6 +22,7 @@ lines=$(wc -l <"$work/in")
 printf 'x' | "$root/streams" run >/dev/null
 program=$root/crates/streams/out/streams
 . "$root/bench/measure.sh"
+if command -v node >/dev/null 2>&1; then has_node=yes; else has_node=; fi
 
 # The plan of these stages, one a word: KIND or KIND:KEY=VALUE.
 plan() {
@@ -31,10 +33,11 @@ plan() {
     done
 }
 
-measure() {
-    best_of_three "$@"
-    printf '  %-9s %6s s  %8s MiB/s  %9s chunks/s  %8s KiB\n' "$1" "$best" "$(echo "scale=1; $mebibytes / $best" | bc)" \
-        "$(echo "$chunks / $best" | bc)" "$peak"
+show() {
+    middle=$(median "$work/$1.ms")
+    printf '  %-9s %7s s  (best %7s)  %8s MiB/s  %9s chunks/s  %8s KiB\n' "$1" "$(seconds "$middle")" \
+        "$(seconds "$(least "$work/$1.ms")")" "$(ratio "$middle" "$((mebibytes * 1000))")" "$((chunks * 1000 / middle))" \
+        "$(sort -n "$work/$1.kib" | tail -1)"
 }
 
 # The stages of a pipeline, the chunks that pass them, and the usual tool's words behind `--`.
@@ -51,14 +54,22 @@ run() {
     # shellcheck disable=SC2086
     plan $stages >"$work/plan.toml"
     echo "$stages"
-    measure streams "$program" run "$work/plan.toml"
-    streams=$best
-    if [ $# -gt 0 ]; then measure "$1" "$@"; fi
-    if command -v node >/dev/null 2>&1; then
+    forget
+    turn=0
+    while [ "$turn" -lt "$turns" ]; do
+        once streams "$program" run "$work/plan.toml"
+        if [ $# -gt 0 ]; then once "$1" "$@"; fi
         # shellcheck disable=SC2086
-        measure node node "$root/bench/plans.mjs" $stages
+        if [ -n "$has_node" ]; then once node node "$root/bench/plans.mjs" $stages; fi
+        turn=$((turn + 1))
+    done
+    show streams
+    if [ $# -gt 0 ]; then show "$1"; fi
+    if [ -n "$has_node" ]; then
+        show node
         cmp "$work/streams" "$work/node" || { echo 'the outputs differ' >&2; exit 1; }
-        echo "  streams has $(echo "scale=2; $best / $streams" | bc) times node's rate"
+        echo "  streams has $(ratio "$(median "$work/streams.ms")" "$(median "$work/node.ms")") times node's rate," \
+            "best by best $(ratio "$(least "$work/streams.ms")" "$(least "$work/node.ms")")"
     fi
 }
 
