@@ -1,9 +1,10 @@
 #!/bin/sh
 # Runs four pipelines over text in lines of about 80 bytes by `./streams run FILE`, beside the usual tool where there is one and,
 # where node is there, beside the same stages written for Node's own Web Streams (reads of 4,096 bytes), in one run: `lines` and
-# `number`, `hex`, `mask`, and four transform streams in a row. They take turns, five times each. Prints each one's median and best,
-# its rate and the chunks that pass its stages in a second by the median, its peak memory, and how many times Node's rate
-# `./streams run` has, by the medians and by the best. Each output is compared with Node's. Words: the input's MiB, and how many turns.
+# `number`, `hex`, `mask`, and four transform streams in a row. They take turns, five times each, and three times as often where a
+# run is short. Prints each one's median and best, its rate and the chunks that pass its stages in a second by the median, its peak
+# memory, and how many times Node's rate `./streams run` has, by the medians and by the best. Each output is compared with Node's.
+# Words: the input's MiB, and how many turns.
 set -eu
 root=$(CDPATH='' cd -- "$(dirname -- "$0")/.." && pwd)
 work=$(mktemp -d)
@@ -40,10 +41,11 @@ show() {
         "$(sort -n "$work/$1.kib" | tail -1)"
 }
 
-# The stages of a pipeline, the chunks that pass them, and the usual tool's words behind `--`.
+# How many turns, the chunks that pass the stages of a pipeline, the stages, and the usual tool's words behind `--`.
 run() {
-    chunks=$1
-    shift
+    left=$1
+    chunks=$2
+    shift 2
     stages=
     while [ $# -gt 0 ] && [ "$1" != -- ]; do
         stages="$stages $1"
@@ -55,13 +57,12 @@ run() {
     plan $stages >"$work/plan.toml"
     echo "$stages"
     forget
-    turn=0
-    while [ "$turn" -lt "$turns" ]; do
+    while [ "$left" -gt 0 ]; do
         once streams "$program" run "$work/plan.toml"
         if [ $# -gt 0 ]; then once "$1" "$@"; fi
         # shellcheck disable=SC2086
         if [ -n "$has_node" ]; then once node node "$root/bench/plans.mjs" $stages; fi
-        turn=$((turn + 1))
+        left=$((left - 1))
     done
     show streams
     if [ $# -gt 0 ]; then show "$1"; fi
@@ -75,7 +76,7 @@ run() {
 
 pieces=$((mebibytes * 256))
 echo "$(nproc) processors, $mebibytes MiB, $lines lines"
-run "$((pieces + 2 * lines))" lines number -- cat -n
-run "$((2 * pieces))" hex -- xxd -p
-run "$((2 * pieces))" mask:key=5a17
-run "$((pieces + 4 * lines))" lines number mask:key=5a17 hex
+run "$turns" "$((pieces + 2 * lines))" lines number -- cat -n
+run "$((3 * turns))" "$((2 * pieces))" hex -- xxd -p
+run "$((3 * turns))" "$((2 * pieces))" mask:key=5a17
+run "$turns" "$((pieces + 4 * lines))" lines number mask:key=5a17 hex
