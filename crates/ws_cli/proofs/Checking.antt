@@ -1,5 +1,5 @@
 -- What the ends of a check exclude.
-use Rattle.std.proofs.Common.{◌≡◌, ◌⊎◌, inl, inr, ℕ, true, List, [], refl, sym, ◌∙◌, ap, arith}
+use Rattle.std.proofs.Common.{◌≡◌, ◌⊎◌, inl, inr, ℕ, true, List, [], refl, sym, ◌∙◌, ap, subst, arith}
 use Rattle.std.proofs.lemmas.Bool.{false≢true}
 use Rattle.std.specs.Prelude.{Result, Ok, Err, is_err}
 use Rattle.ws_io.specs.Faults.{Calm, HasCause}
@@ -11,12 +11,22 @@ use Rattle.ws_io.specs.declared.status.Status.{Status}
 use Rattle.ws_io.specs.declared.status.Status.TheVariants.{Done, WriteFault, NoMemory, LoadFault, Plan}
 use Rattle.ws_plan.specs.Reading.{Planned, reading}
 use Rattle.ws_flow.specs.declared.plan.Plan.{Plan as PlanOf}
+use Rattle.ws_flow.specs.declared.refusal.Refusal.{Refusal}
+use Rattle.ws_flow.specs.Refusals.{refusal_number}
 use Rattle.ws_plan.specs.Answers.{planned_as}
 use Rattle.ws_plan.specs.PlanText.{check_text}
 use Rattle.ws_script.specs.Printing.{Told, Performs, StopsPrinting}
-use Rattle.ws_cli.specs.Check.{Shelf, HasText, LacksText, CheckEnds, ChecksText, PerformsCheck}
+use Rattle.ws_cli.specs.Check.{Shelf, HasText, LacksText, IsFirstRefusal, CheckEnds, ChecksText, PerformsCheck}
 use Rattle.ws_cli.specs.Planned.{Loads}
-use Rattle.ws_cli.proofs.Loading.{long_reading, not_both_read, same_number, told_none, told_not_long, told_text}
+use Rattle.ws_cli.proofs.Loading.{long_reading, not_both_read, number_told, told_none, told_not_long, told_text}
+
+first_refusal : (n : ℕ) (name text : List ℕ) (files files' : Shelf) (old new : Told) (p q : List ℕ → Type 0) → CheckEnds (Plan n) name files files' old new p q
+    → HasText files name text → IsFirstRefusal n text
+first_refusal n name text files files' old new p q e has =
+    elim e [
+      | inl long ↦ long_reading n name text files files' has long
+      | inr bad ↦ subst (λ (t : List ℕ). IsFirstRefusal n t) (told_text files.texts name text bad.text has bad.loaded) bad.checks
+    ]
 
 Complete : (status : Status) (name : List ℕ) (files files' : Shelf) (old new : Told) (p q : List ℕ → Type 0) → CheckEnds status name files files' old new p q
     → (text : List ℕ) (plan : Planned) → HasText files name text → reading text ≡ Ok plan
@@ -26,27 +36,21 @@ Complete NoMemory name files files' old new p q e text plan has accepted load wr
 Complete LoadFault name files files' old new p q e text plan has accepted load write = let rose = e in absurd (omega arith)
 Complete WriteFault name files files' old new p q e text plan has accepted load write = let rose = e.checks.prints.cause in absurd (omega arith)
 Complete (Plan n) name files files' old new p q e text plan has accepted load write =
-    elim e [
-      | inl long ↦ absurd (not_both_read (reading text) plan n accepted (long_reading n name text files files' has long))
-      | inr bad ↦ absurd (not_both_read (reading text) plan n accepted (ap reading (sym (told_text files.texts name text bad.text has bad.loaded)) ∙ bad.checks))
-    ]
+    let first = first_refusal n name text files files' old new p q e has in absurd (not_both_read (reading text) plan first.cause accepted first.refused)
 Complete _ name files files' old new p q e text plan has accepted load write = absurd e.checks
 
 Refused : (status : Status) (name : List ℕ) (files files' : Shelf) (old new : Told) (p q : List ℕ → Type 0) → CheckEnds status name files files' old new p q
-    → (text : List ℕ) (n : ℕ) → HasText files name text → reading text ≡ Err n
-    → Calm files.faults files'.faults → (status ≡ Plan n) ⊎ (status ≡ NoMemory)
-Refused Done name files files' old new p q e text n has refused load =
-    absurd (not_both_read (reading e.text) _ n e.checks.accepted (ap reading (told_text files.texts name text e.text has e.loaded) ∙ refused))
-Refused NoMemory name files files' old new p q e text n has refused load = inr refl
-Refused LoadFault name files files' old new p q e text n has refused load = let rose = e in absurd (omega arith)
-Refused WriteFault name files files' old new p q e text n has refused load =
-    absurd (not_both_read (reading e.text) _ n e.checks.accepted (ap reading (told_text files.texts name text e.text has e.loaded) ∙ refused))
-Refused (Plan m) name files files' old new p q e text n has refused load =
-    elim e [
-      | inl long ↦ inl (ap Plan (same_number (reading text) m n (long_reading m name text files files' has long) refused))
-      | inr bad ↦ inl (ap Plan (same_number (reading text) m n (ap reading (sym (told_text files.texts name text bad.text has bad.loaded)) ∙ bad.checks) refused))
-    ]
-Refused _ name files files' old new p q e text n has refused load = absurd e.checks
+    → (text : List ℕ) (cause : Refusal) → HasText files name text → reading text ≡ Err cause
+    → Calm files.faults files'.faults → (status ≡ Plan (refusal_number cause)) ⊎ (status ≡ NoMemory)
+Refused Done name files files' old new p q e text cause has refused load =
+    absurd (not_both_read (reading e.text) _ cause e.checks.accepted (ap reading (told_text files.texts name text e.text has e.loaded) ∙ refused))
+Refused NoMemory name files files' old new p q e text cause has refused load = inr refl
+Refused LoadFault name files files' old new p q e text cause has refused load = let rose = e in absurd (omega arith)
+Refused WriteFault name files files' old new p q e text cause has refused load =
+    absurd (not_both_read (reading e.text) _ cause e.checks.accepted (ap reading (told_text files.texts name text e.text has e.loaded) ∙ refused))
+Refused (Plan n) name files files' old new p q e text cause has refused load =
+    inl (ap Plan (number_told n text cause (first_refusal n name text files files' old new p q e has) refused))
+Refused _ name files files' old new p q e text cause has refused load = absurd e.checks
 
 Missing : (status : Status) (name : List ℕ) (files files' : Shelf) (old new : Told) (p q : List ℕ → Type 0) → CheckEnds status name files files' old new p q
     → LacksText files name → (status ≡ LoadFault) ⊎ (status ≡ NoMemory)

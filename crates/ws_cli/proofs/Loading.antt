@@ -8,10 +8,13 @@ use Rattle.ws_io.specs.declared.files.LoadRefused.TheVariants.{TooLong}
 use Rattle.ws_io.specs.declared.status.Status.{Status}
 use Rattle.ws_io.specs.declared.status.Status.TheVariants.{LoadFault, NoMemory, Plan as PlanIs}
 use Rattle.ws_flow.specs.declared.plan.Plan.{Plan}
+use Rattle.ws_flow.specs.declared.refusal.Refusal.{Refusal}
+use Rattle.ws_flow.specs.declared.refusal.Refusal.TheVariants.{FileTooLong}
 use Rattle.ws_flow.specs.Plans.{refusal, refusal_of}
+use Rattle.ws_flow.specs.Refusals.{refusal_number}
 use Rattle.ws_plan.specs.Answers.{planned_as}
 use Rattle.ws_plan.specs.Reading.{Planned, accepted, most_of_a_file, planned, reading, table_in, unless_refused, ◌>>=◌}
-use Rattle.ws_cli.specs.Check.{Shelf, HasText, IsTooLong, LacksText, OfName}
+use Rattle.ws_cli.specs.Check.{Shelf, HasText, IsFirstRefusal, IsTooLong, LacksText, OfName}
 use Rattle.ws_cli.specs.Planned.{Loads}
 
 -- a loaded text is the one that is told
@@ -47,39 +50,42 @@ pub told_not_long : (texts : Option (List ℕ → Option (List ℕ))) (name : Li
 told_not_long None name lacks loaded = lacks
 told_not_long (Some texts) name lacks loaded = no_long (texts name) lacks loaded
 
--- a text that is too long is refused by 8
-too_long : (text : List ℕ) → load_limit < length text → reading text ≡ Err 8
+-- a text that is too long is refused for that
+too_long : (text : List ℕ) → load_limit < length text → reading text ≡ Err FileTooLong
 too_long text long = let is : nat_lt 1048576 (length text) ≡ true = lt-ltb 1048576 (length text) long in rw is refl
 
-pub long_reading : (n : ℕ) (name text : List ℕ) (files files' : Shelf) → HasText files name text → IsTooLong n name files files' → reading text ≡ Err n
+pub long_reading : (n : ℕ) (name text : List ℕ) (files files' : Shelf) → HasText files name text → IsTooLong n name files files' → IsFirstRefusal n text
 long_reading n name text files files' has long =
-    too_long text (told_long files.texts name text has long.long) ∙ ap Err (sym long.number)
+    record { cause = FileTooLong; refused = too_long text (told_long files.texts name text has long.long); number = long.number }
 
-pub same_number : (r : Result Planned ℕ) (m n : ℕ) → r ≡ Err m → r ≡ Err n → m ≡ n
-same_number r m n a b = cc
+same_cause : (r : Result Planned Refusal) (c d : Refusal) → r ≡ Err c → r ≡ Err d → c ≡ d
+same_cause r c d a b = cc
 
-pub same_planned : (r : Result Planned ℕ) (p q : Planned) → r ≡ Ok p → r ≡ Ok q → p ≡ q
+pub number_told : (n : ℕ) (text : List ℕ) (cause : Refusal) → IsFirstRefusal n text → reading text ≡ Err cause → n ≡ refusal_number cause
+number_told n text cause first refused = first.number ∙ ap refusal_number (same_cause (reading text) first.cause cause first.refused refused)
+
+pub same_planned : (r : Result Planned Refusal) (p q : Planned) → r ≡ Ok p → r ≡ Ok q → p ≡ q
 same_planned r p q a b = cc
 
-pub not_both_read : (r : Result Planned ℕ) (p : Planned) (n : ℕ) → r ≡ Ok p → r ≡ Err n → ⊥
-not_both_read r p n a b = cc
+pub not_both_read : (r : Result Planned Refusal) (p : Planned) (cause : Refusal) → r ≡ Ok p → r ≡ Err cause → ⊥
+not_both_read r p cause a b = cc
 
 -- a text of a plan is that of an accepted one
-bound_ok : {A B : Type 0} (r : Result A ℕ) (f : A → Result B ℕ) (q : B) → (r >>= f) ≡ Ok q → (x : A) × (f x ≡ Ok q)
+bound_ok : {A B : Type 0} (r : Result A Refusal) (f : A → Result B Refusal) (q : B) → (r >>= f) ≡ Ok q → (x : A) × (f x ≡ Ok q)
 bound_ok (Ok x) f q h = (x, h)
-bound_ok (Err n) f q h = cc
+bound_ok (Err cause) f q h = cc
 
-unless_ok : (p q : Planned) (o : Option ℕ) → unless_refused p o ≡ Ok q → (p ≡ q) × (o ≡ None)
+unless_ok : (p q : Planned) (o : Option Refusal) → unless_refused p o ≡ Ok q → (p ≡ q) × (o ≡ None)
 unless_ok p q None h = (cc, refl)
-unless_ok p q (Some n) h = cc
+unless_ok p q (Some cause) h = cc
 
-abbrev refusal_in : Planned → Option ℕ
+abbrev refusal_in : Planned → Option Refusal
 refusal_in p = refusal_of p.workers p.abort_after p.max_input p.stages
 
 accepted_ok : (p q : Planned) → accepted p ≡ Ok q → refusal_in q ≡ None
 accepted_ok p q h = let (same, none) = unless_ok p q (refusal_in p) h in ap refusal_in (sym same) ∙ none
 
-branch_ok : (long : Bool) (r : Result Planned ℕ) (q : Planned) → (if long then Err 8 else r) ≡ Ok q → r ≡ Ok q
+branch_ok : (long : Bool) (r : Result Planned Refusal) (q : Planned) → (if long then Err FileTooLong else r) ≡ Ok q → r ≡ Ok q
 branch_ok true r q h = cc
 branch_ok false r q h = h
 
@@ -102,20 +108,20 @@ pub same_plan : (plan : Plan) (name text : List ℕ) (files files' : Shelf) (p :
 same_plan plan name text files files' p r has accepted =
     same_planned (reading text) (planned_as plan) p (ap reading (sym (told_text files.texts name text r.text has r.loaded)) ∙ r.read) accepted
 
-pub no_plan : (plan : Plan) (name text : List ℕ) (files files' : Shelf) (n : ℕ) → Loads (Ok plan) name files files'
-    → HasText files name text → reading text ≡ Err n → ⊥
-no_plan plan name text files files' n r has refused =
-    not_both_read (reading text) (planned_as plan) n (ap reading (sym (told_text files.texts name text r.text has r.loaded)) ∙ r.read) refused
+pub no_plan : (plan : Plan) (name text : List ℕ) (files files' : Shelf) (cause : Refusal) → Loads (Ok plan) name files files'
+    → HasText files name text → reading text ≡ Err cause → ⊥
+no_plan plan name text files files' cause r has refused =
+    not_both_read (reading text) (planned_as plan) cause (ap reading (sym (told_text files.texts name text r.text has r.loaded)) ∙ r.read) refused
 
 pub no_file : (plan : Plan) (name : List ℕ) (files files' : Shelf) → Loads (Ok plan) name files files' → LacksText files name → ⊥
 no_file plan name files files' r lacks = told_none files.texts name r.text lacks r.loaded
 
 -- the status of a command that has no plan
-plan_number : (n : ℕ) (name text : List ℕ) (files files' : Shelf) → Loads (Err (PlanIs n)) name files files' → HasText files name text → reading text ≡ Err n
+plan_number : (n : ℕ) (name text : List ℕ) (files files' : Shelf) → Loads (Err (PlanIs n)) name files files' → HasText files name text → IsFirstRefusal n text
 plan_number n name text files files' e has =
     elim e [
       | inl long ↦ long_reading n name text files files' has long
-      | inr bad ↦ ap reading (sym (told_text files.texts name text bad.text has bad.loaded)) ∙ bad.read
+      | inr bad ↦ subst (λ (t : List ℕ). IsFirstRefusal n t) (told_text files.texts name text bad.text has bad.loaded) bad.read
     ]
 
 pub Accepted-none : (status : Status) (name text : List ℕ) (files files' : Shelf) (p : Planned) → Loads (Err status) name files files'
@@ -123,16 +129,16 @@ pub Accepted-none : (status : Status) (name text : List ℕ) (files files' : She
 Accepted-none NoMemory name text files files' p e has accepted calm = refl
 Accepted-none LoadFault name text files files' p e has accepted calm = let rose = e in absurd (omega arith)
 Accepted-none (PlanIs n) name text files files' p e has accepted calm =
-    absurd (not_both_read (reading text) p n accepted (plan_number n name text files files' e has))
+    let first = plan_number n name text files files' e has in absurd (not_both_read (reading text) p first.cause accepted first.refused)
 Accepted-none _ name text files files' p e has accepted calm = absurd e.read
 
-pub Refused-none : (status : Status) (name text : List ℕ) (files files' : Shelf) (n : ℕ) → Loads (Err status) name files files'
-    → HasText files name text → reading text ≡ Err n → Calm files.faults files'.faults → (status ≡ PlanIs n) ⊎ (status ≡ NoMemory)
-Refused-none NoMemory name text files files' n e has refused calm = inr refl
-Refused-none LoadFault name text files files' n e has refused calm = let rose = e in absurd (omega arith)
-Refused-none (PlanIs m) name text files files' n e has refused calm =
-    inl (ap PlanIs (same_number (reading text) m n (plan_number m name text files files' e has) refused))
-Refused-none _ name text files files' n e has refused calm = absurd e.read
+pub Refused-none : (status : Status) (name text : List ℕ) (files files' : Shelf) (cause : Refusal) → Loads (Err status) name files files'
+    → HasText files name text → reading text ≡ Err cause → Calm files.faults files'.faults → (status ≡ PlanIs (refusal_number cause)) ⊎ (status ≡ NoMemory)
+Refused-none NoMemory name text files files' cause e has refused calm = inr refl
+Refused-none LoadFault name text files files' cause e has refused calm = let rose = e in absurd (omega arith)
+Refused-none (PlanIs n) name text files files' cause e has refused calm =
+    inl (ap PlanIs (number_told n text cause (plan_number n name text files files' e has) refused))
+Refused-none _ name text files files' cause e has refused calm = absurd e.read
 
 pub Missing-none : (status : Status) (name : List ℕ) (files files' : Shelf) → Loads (Err status) name files files'
     → LacksText files name → (status ≡ LoadFault) ⊎ (status ≡ NoMemory)

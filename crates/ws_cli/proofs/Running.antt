@@ -168,7 +168,7 @@ Performs-ran status name input input' output output' files files' old new p q pl
           let same = same_plan plan name text files files' (planned_as other) loads has is in
           Unaborted-by status plan old new p q bytes e ok left (Unaborted-same plan other bytes same few)
           (Whole status plan old new p q bytes e ok left (Fine-for-same plan other bytes same fine) read write);
-      refused = λ text n has is load. absurd (no_plan plan name text files files' n loads has is);
+      refused = λ text cause has is load. absurd (no_plan plan name text files files' cause loads has is);
       missing = λ lacks. absurd (no_file plan name files files' loads lacks);
     }
 
@@ -182,6 +182,6 @@ Performs-unread status name input output files files' now p loads =
           inr (inr (Accepted-none status name text files files' (planned_as other) loads has is load));
       unaborted = λ text other bytes has is left fine few load read write.
           inr (Accepted-none status name text files files' (planned_as other) loads has is load);
-      refused = λ text n has is load. Refused-none status name text files files' n loads has is load;
+      refused = λ text cause has is load. Refused-none status name text files files' cause loads has is load;
       missing = λ lacks. Missing-none status name files files' loads lacks;
     }

@@ -7,6 +7,9 @@ use Rattle.ws_io.specs.declared.files.LoadRefused.TheVariants.{TooLong}
 use Rattle.ws_io.specs.declared.status.Status.{Status}
 use Rattle.ws_io.specs.declared.status.Status.TheVariants.{Done, Stage, Usage, Plan, ReadFault, WriteFault, Aborted, NoMemory, Script, LoadFault, TooMuch}
 use Rattle.ws_flow.specs.declared.plan.Plan.{Plan as PlanOf}
+use Rattle.ws_flow.specs.declared.refusal.Refusal.{Refusal}
+use Rattle.ws_flow.specs.declared.refusal.Refusal.TheVariants.{FileTooLong}
+use Rattle.ws_flow.specs.Refusals.{refusal_number}
 use Rattle.ws_plan.specs.Answers.{planned_as}
 use Rattle.ws_plan.specs.PlanText.{check_text}
 use Rattle.ws_plan.specs.Reading.{Planned, reading}
@@ -43,11 +46,17 @@ pub record PrintsPlan (status : Status) (text : List ℕ) (old new : Told) (got 
   pub accepted : reading text ≡ Ok (planned_as plan)
   pub prints : Performs status (check_text plan) old new got got'
 
+-- the number is that of the first refusal of the text
+pub record IsFirstRefusal (n : ℕ) (text : List ℕ) : Type 0 where
+  pub cause : Refusal
+  pub refused : reading text ≡ Err cause
+  pub number : n ≡ refusal_number cause
+
 -- how the check of a text may end
 abbrev pub ChecksText : Status → List ℕ → Told → Told → (List ℕ → Type 0) → (List ℕ → Type 0) → Type 0
 ChecksText Done text old new got got' = PrintsPlan Done text old new got got'
 ChecksText WriteFault text old new got got' = PrintsPlan WriteFault text old new got got'
-ChecksText (Plan n) text old new got got' = reading text ≡ Err n
+ChecksText (Plan n) text old new got got' = IsFirstRefusal n text
 ChecksText NoMemory text old new got got' = Unit {0}
 ChecksText (Stage index code place) text old new got got' = ⊥
 ChecksText Usage text old new got got' = ⊥
@@ -66,7 +75,7 @@ pub record ChecksFile (status : Status) (name : List ℕ) (files files' : Shelf)
 
 -- the file is too long, and refused for that
 pub record IsTooLong (n : ℕ) (name : List ℕ) (files files' : Shelf) : Type 0 where
-  pub number : n ≡ 8
+  pub number : n ≡ refusal_number FileTooLong
   pub long : LoadsTold files.texts name (Err TooLong)
   pub calm : files'.faults ≡ files.faults
 
@@ -90,7 +99,7 @@ pub record PerformsCheck {K : Type 0} (status : Status) (name : List ℕ) (outpu
       → Calm files.faults files'.faults → Calm old.faults new.faults
       → (status ≡ Done) ⊎ (status ≡ NoMemory)
   -- where no load fails, a refused file ends with the number of its first refusal, or memory can't be had
-  pub refused : (text : List ℕ) (n : ℕ) → HasText files name text → reading text ≡ Err n
-      → Calm files.faults files'.faults → (status ≡ Plan n) ⊎ (status ≡ NoMemory)
+  pub refused : (text : List ℕ) (cause : Refusal) → HasText files name text → reading text ≡ Err cause
+      → Calm files.faults files'.faults → (status ≡ Plan (refusal_number cause)) ⊎ (status ≡ NoMemory)
   -- a name without a text is a failed load
   pub missing : LacksText files name → (status ≡ LoadFault) ⊎ (status ≡ NoMemory)

@@ -8,16 +8,18 @@ use Rattle.ws_io.specs.declared.status.Status.{Status}
 use Rattle.ws_io.specs.declared.status.Status.TheVariants.{Done, Plan as PlanIs, Aborted, NoMemory, LoadFault}
 use Rattle.ws_flow.specs.declared.plan.Ending.TheVariants.{Fine}
 use Rattle.ws_flow.specs.declared.plan.Plan.{Plan}
+use Rattle.ws_flow.specs.declared.refusal.Refusal.{Refusal}
+use Rattle.ws_flow.specs.Refusals.{refusal_number}
 use Rattle.ws_flow.specs.Told.{Closed}
 use Rattle.ws_plan.specs.Answers.{planned_as}
 use Rattle.ws_plan.specs.Reading.{reading}
 use Rattle.ws_runner.specs.Ends.{Ends, ending_of, out_of}
-use Rattle.ws_cli.specs.Check.{Shelf, HasText, LacksText, IsTooLong}
+use Rattle.ws_cli.specs.Check.{Shelf, HasText, LacksText, IsFirstRefusal, IsTooLong}
 
 -- a text is that of a plan, or refused by the number of its first refusal; memory may be wanting
 abbrev pub ReadsText : Result Plan Status → List ℕ → Type 0
 ReadsText (Ok plan) text = reading text ≡ Ok (planned_as plan)
-ReadsText (Err (PlanIs n)) text = reading text ≡ Err n
+ReadsText (Err (PlanIs n)) text = IsFirstRefusal n text
 ReadsText (Err NoMemory) text = Unit {0}
 ReadsText (Err status) text = ⊥
 
@@ -68,7 +70,7 @@ pub record PerformsRun {S K : Type 0} (status : Status) (name : List ℕ) (input
       → Calm files.faults files'.faults → Calm old.read_faults new.read_faults → Calm old.write_faults new.write_faults
       → (status ≡ Done) ⊎ (status ≡ NoMemory)
   -- where no load fails, a refused file ends with the number of its first refusal, or memory can't be had
-  pub refused : (text : List ℕ) (n : ℕ) → HasText files name text → reading text ≡ Err n
-      → Calm files.faults files'.faults → (status ≡ PlanIs n) ⊎ (status ≡ NoMemory)
+  pub refused : (text : List ℕ) (cause : Refusal) → HasText files name text → reading text ≡ Err cause
+      → Calm files.faults files'.faults → (status ≡ PlanIs (refusal_number cause)) ⊎ (status ≡ NoMemory)
   -- a name without a text is a failed load
   pub missing : LacksText files name → (status ≡ LoadFault) ⊎ (status ≡ NoMemory)

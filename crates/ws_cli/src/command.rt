@@ -100,7 +100,8 @@ fn perform<R: Wait, F: Files, S: Source, K: Sink>(
     }
 }
 
-/// Does what the words after the program's name say, and writes the text of the status on the notes. The gate isn't used yet.
+/// Does what the words after the program's name say, and writes the text of the status on the notes. The gate isn't
+/// used yet.
 pub fn top<R: Threads + Wait, F: Files, S: Source, K: Sink, E: Sink, G: Gate>(
     rt: &R,
     alloc: Global,

@@ -5,13 +5,10 @@ ghost use Rattle.ws_cli.specs.Check.{shelf};
 ghost use Rattle.ws_cli.specs.Planned.{Loads, ReadsText};
 
 use std::alloc::Global;
-use ws_flow::Plan;
+use ws_flow::{Plan, Refusal};
 use ws_io::{Files, LoadRefused, Status};
 use ws_plan::{PlanRefused, read_plan};
 use ws_value::{Blob, Text};
-
-/// The refusal of a pipeline file that is too long.
-const TOO_LONG: u8 = 8;
 
 /// The plan of a text.
 fn plan_of(alloc: Global, text: &Blob) -> Result<Plan, Status>
@@ -20,7 +17,7 @@ fn plan_of(alloc: Global, text: &Blob) -> Result<Plan, Status>
 {
     match read_plan(alloc, text.as_slice()) {
         Ok(plan) => Ok(plan),
-        Err(PlanRefused::Number(number)) => Err(Status::Plan(number)),
+        Err(PlanRefused::Cause(cause)) => Err(Status::Plan(cause.number())),
         Err(PlanRefused::NoMemory) => Err(Status::NoMemory),
     }
 }
@@ -35,7 +32,7 @@ pub fn load_plan<F: Files>(alloc: Global, files: &mut F, name: &Text) -> Result<
     match files.load(alloc, name) {
         Ok(text) => plan_of(alloc, &text),
         Err(LoadRefused::Failed) => Err(Status::LoadFault),
-        Err(LoadRefused::TooLong) => Err(Status::Plan(TOO_LONG)),
+        Err(LoadRefused::TooLong) => Err(Status::Plan(Refusal::FileTooLong.number())),
         Err(LoadRefused::NoMemory) => Err(Status::NoMemory),
     }
 }

@@ -16,6 +16,8 @@ use Rattle.ws_flow.specs.declared.plan.Stage.TheVariants.{Lines, Fixed, Hex, Unh
 use Rattle.ws_flow.specs.declared.plan.Ending.{Ending}
 use Rattle.ws_flow.specs.declared.plan.Stage.{Stage}
 use Rattle.ws_flow.specs.declared.plan.Placed.{Placed}
+use Rattle.ws_flow.specs.declared.refusal.Refusal.{Refusal}
+use Rattle.ws_flow.specs.declared.refusal.Refusal.TheVariants.{TooManyStages, OutOfRange, TooManyHex, SeesCutting, TooManyWorkers, WorkersOutOfOrder, IdleWorker}
 use Rattle.hex.specs.Hex.{encode_lower, hex_digit_value, lower_digits}
 use Rattle.hex.proofs.HexLemmas.{length-encode_with}
 use Rattle.std.specs.List.{list_all, filter, count_by, concat, All}
@@ -317,9 +319,10 @@ record Passed (a b c d e f g : Bool) : Type 0 where
   pub order : f ≡ true
   pub each : g ≡ true
 
-abbrev first_of_these : Bool → Bool → Bool → Bool → Bool → Bool → Bool → Option ℕ
+abbrev first_of_these : Bool → Bool → Bool → Bool → Bool → Bool → Bool → Option Refusal
 first_of_these a b c d e f g =
-    if a then Some 1 else if not b then Some 2 else if c then Some 7 else if not d then Some 3 else if not e then Some 4 else if not f then Some 6 else if not g then Some 5 else None
+    if a then Some TooManyStages else if not b then Some OutOfRange else if c then Some TooManyHex else if not d then Some SeesCutting
+    else if not e then Some TooManyWorkers else if not f then Some WorkersOutOfOrder else if not g then Some IdleWorker else None
 
 passed : (a b c d e f g : Bool) → first_of_these a b c d e f g ≡ None → Passed a b c d e f g
 passed true b c d e f g h = cc

@@ -2,6 +2,7 @@ pub mod Told
 pub mod Machines
 pub mod Stages
 pub mod Plans
+pub mod Refusals
 pub mod Parts
 pub mod Steps
 pub mod Rows

@@ -5,6 +5,8 @@ use Rattle.ws_flow.specs.declared.plan.Stage.{Stage}
 use Rattle.ws_flow.specs.declared.plan.Stage.TheVariants.{Lines, Fixed, Hex, Unhex, Mask, Number, Frame, Unframe}
 use Rattle.ws_flow.specs.declared.plan.Placed.{Placed}
 use Rattle.ws_flow.specs.declared.plan.Plan.{Plan}
+use Rattle.ws_flow.specs.declared.refusal.Refusal.{Refusal}
+use Rattle.ws_flow.specs.declared.refusal.Refusal.TheVariants.{TooManyStages, OutOfRange, TooManyHex, SeesCutting, TooManyWorkers, WorkersOutOfOrder, IdleWorker}
 use Rattle.ws_flow.specs.Told.{Mark, Told, told}
 use Rattle.ws_flow.specs.Machines.{all_through}
 use Rattle.ws_flow.specs.Stages.{machines, some_chunk}
@@ -81,19 +83,17 @@ abbrev pub each_has_stage : ℕ → List Placed → Bool
 each_has_stage zero ps = true
 each_has_stage (suc w) ps = each_has_stage w ps && has_stage (suc w) ps
 
--- the number of the first refusal of a plan with so many workers, these bytes before an abort and of input, and these stages, if it is
--- refused: 1, more than 16 stages; 2, a number that is out of its range; 7, more than 4 stages `hex`; 3, chunks that would depend on
--- how the input was cut; 4, more than 8 workers; 6, a stage's worker is less than the one before; 5, a worker without a stage
-abbrev pub refusal_of : ℤ → Option ℤ → ℤ → List Placed → Option ℕ
+-- the first refusal of a plan with so many workers, these bytes before an abort and of input, and these stages, if it is refused
+abbrev pub refusal_of : ℤ → Option ℤ → ℤ → List Placed → Option Refusal
 refusal_of workers after most ps =
-    if nat_lt 16 (length ps) then Some 1
-    else if not (are_within workers after most ps) then Some 2
-    else if nat_lt 4 (count_by (λ p. is_hex p.stage) ps) then Some 7
-    else if not (sees_known_chunks false (map (λ p. p.stage) ps)) then Some 3
-    else if not (int_le workers (pos 8)) then Some 4
-    else if not (are_in_order (pos 0) ps) then Some 6
-    else if not (each_has_stage (nat_abs workers) ps) then Some 5
+    if nat_lt 16 (length ps) then Some TooManyStages
+    else if not (are_within workers after most ps) then Some OutOfRange
+    else if nat_lt 4 (count_by (λ p. is_hex p.stage) ps) then Some TooManyHex
+    else if not (sees_known_chunks false (map (λ p. p.stage) ps)) then Some SeesCutting
+    else if not (int_le workers (pos 8)) then Some TooManyWorkers
+    else if not (are_in_order (pos 0) ps) then Some WorkersOutOfOrder
+    else if not (each_has_stage (nat_abs workers) ps) then Some IdleWorker
     else None
 
-abbrev pub refusal : Plan → Option ℕ
+abbrev pub refusal : Plan → Option Refusal
 refusal plan = refusal_of plan.workers plan.abort_after plan.max_input plan.stages.items

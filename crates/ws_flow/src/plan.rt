@@ -1,7 +1,8 @@
 use ws_value::Blob;
 
-/// What is done to the bytes or chunks that pass. Numbers are as the pipeline file gives them, and may be out of their range.
-#[derive(Debug, Drop)]
+/// What is done to the bytes or chunks that pass. Numbers are as the pipeline file gives them, and may be out of their
+/// range.
+#[derive(Drop)]
 pub enum Stage {
     /// The joined input, cut after each line feed. A line of more than `max` bytes, its feed not counted, is bad.
     Lines { max: i64 },
@@ -9,7 +10,8 @@ pub enum Stage {
     Fixed { n: i64 },
     /// Each chunk as lower-case hexadecimal text.
     Hex,
-    /// The bytes of the joined input's hexadecimal digits, in both cases; line feeds and carriage returns are passed over.
+    /// The bytes of the joined input's hexadecimal digits, in both cases; line feeds and carriage returns are passed
+    /// over.
     Unhex,
     /// Each byte xor the key's byte at its place in the stage's input, the key repeated.
     Mask { key: Blob },
@@ -22,14 +24,15 @@ pub enum Stage {
 }
 
 /// A stage, and the worker on which it is performed: 0 is the caller's own thread.
-#[derive(Debug, Drop)]
+#[derive(Drop)]
 pub struct Placed {
     pub stage: Stage,
     pub worker: i64,
 }
 
-/// A pipeline: its stages in order, its number of workers, after how many bytes of output it is aborted, and how many bytes of input it takes.
-#[derive(Debug, Drop)]
+/// A pipeline: its stages in order, its number of workers, after how many bytes of output it is aborted, and how many
+/// bytes of input it takes.
+#[derive(Drop)]
 pub struct Plan {
     pub workers: i64,
     pub abort_after: Option<i64>,
@@ -38,11 +41,13 @@ pub struct Plan {
 }
 
 /// How a stage ended, or that it hasn't yet.
-#[derive(Clone, Copy, Debug, PartialEq, Eq)]
+#[derive(Clone, Copy, PartialEq, Eq)]
 pub enum Ending {
     Fine,
     /// The stage's input is malformed: the cause by its number, and the place in the stage's input, from 0.
     ///
-    /// 1: a line of `lines` is too long. 2: a byte of `unhex` is neither a digit nor passed over. 3: the digits of `unhex` are odd in number. 4: a length of `unframe` is too large. 5: the input of `unframe` ends inside a frame.
+    /// 1: a line of `lines` is too long. 2: a byte of `unhex` is neither a digit nor passed over. 3: the digits of
+    /// `unhex` are odd in number. 4: a length of `unframe` is too large. 5: the input of `unframe` ends inside a
+    /// frame.
     Bad { code: u8, place: u128 },
 }

@@ -4,6 +4,7 @@ use Rattle.std.specs.Prelude.{codes}
 use Rattle.std.specs.Fmt.{digits}
 use Rattle.hex.specs.Hex.{encode_with}
 use Rattle.ws_flow.specs.declared.plan.Stage.TheVariants.{Lines, Mask, Number}
+use Rattle.ws_flow.specs.declared.refusal.Refusal.TheVariants.{WrongKey, OtherVersion, UnknownKind}
 use Rattle.std.specs.Prelude.{None, Ok, Err}
 use Rattle.hex.specs.Hex.{decode_pairs}
 use Rattle.toml.specs.Data.{string, integer, array, table, no_items, item, no_members, member}
@@ -23,19 +24,19 @@ lines_and_number : planned (member (codes "stage") (array (item (table (member (
     ≡ Ok (record { workers = pos 2; abort_after = None; max_input = pos 1099511627776; stages = record { stage = Lines (pos 65536); worker = pos 1 } ∷ record { stage = Number; worker = pos 2 } ∷ [] })
 lines_and_number = refl
 
-no_version : planned no_members ≡ Err 10
+no_version : planned no_members ≡ Err WrongKey
 no_version = refl
 
-version_3 : planned (member (codes "foo") (integer (pos 1)) (member (codes "version") (integer (pos 3)) no_members)) ≡ Err 12
+version_3 : planned (member (codes "foo") (integer (pos 1)) (member (codes "version") (integer (pos 3)) no_members)) ≡ Err OtherVersion
 version_3 = refl
 
-unknown_key : planned (member (codes "foo") (integer (pos 1)) (member (codes "version") (integer (pos 1)) no_members)) ≡ Err 10
+unknown_key : planned (member (codes "foo") (integer (pos 1)) (member (codes "version") (integer (pos 1)) no_members)) ≡ Err WrongKey
 unknown_key = refl
 
-unknown_kind : planned (member (codes "stage") (array (item (table (member (codes "foo") (integer (pos 1)) (member (codes "kind") (string (codes "sort")) no_members))) no_items)) (member (codes "version") (integer (pos 1)) no_members)) ≡ Err 11
+unknown_kind : planned (member (codes "stage") (array (item (table (member (codes "foo") (integer (pos 1)) (member (codes "kind") (string (codes "sort")) no_members))) no_items)) (member (codes "version") (integer (pos 1)) no_members)) ≡ Err UnknownKind
 unknown_kind = refl
 
-half_a_key : planned (member (codes "stage") (array (item (table (member (codes "key") (string (codes "0")) (member (codes "kind") (string (codes "mask")) no_members))) no_items)) (member (codes "version") (integer (pos 1)) no_members)) ≡ Err 10
+half_a_key : planned (member (codes "stage") (array (item (table (member (codes "key") (string (codes "0")) (member (codes "kind") (string (codes "mask")) no_members))) no_items)) (member (codes "version") (integer (pos 1)) no_members)) ≡ Err WrongKey
 unfolding decode_pairs
 half_a_key = refl
 

@@ -9,6 +9,7 @@ ghost use Rattle.ws_plan.specs.Reading.{are_tables, as_tables, as_text, has_only
 
 use crate::PlanRefused;
 use toml::{Table, Value};
+use ws_flow::Refusal;
 
 /// Whether a key is one of these.
 fn is_one_of(key: &str, keys: &[&str]) -> bool
@@ -41,7 +42,7 @@ pub(crate) fn only(table: &Table, keys: &[&str]) -> Result<(), PlanRefused>
     if has_only(table, keys) {
         Ok(())
     } else {
-        Err(PlanRefused::Number(10))
+        Err(PlanRefused::Cause(Refusal::WrongKey))
     }
 }
 
@@ -56,7 +57,7 @@ pub(crate) fn integer_at(table: &Table, key: &str) -> Result<Option<i64>, PlanRe
             if found.is_some() {
                 Ok(found)
             } else {
-                Err(PlanRefused::Number(10))
+                Err(PlanRefused::Cause(Refusal::WrongKey))
             }
         }
     }
@@ -78,7 +79,7 @@ pub(crate) fn some_integer(table: &Table, key: &str) -> Result<i64, PlanRefused>
 {
     match integer_at(table, key)? {
         Some(integer) => Ok(integer),
-        None => Err(PlanRefused::Number(10)),
+        None => Err(PlanRefused::Cause(Refusal::WrongKey)),
     }
 }
 
@@ -87,10 +88,10 @@ pub(crate) fn some_text<'a>(table: &'a Table, key: &str) -> Result<&'a str, Plan
     ensures { Reads (λ s. s.now) result (some_text key.now (table_view table.now)) }
 {
     match table.get(key) {
-        None => Err(PlanRefused::Number(10)),
+        None => Err(PlanRefused::Cause(Refusal::WrongKey)),
         Some(value) => match value.as_str() {
             Some(text) => Ok(text),
-            None => Err(PlanRefused::Number(10)),
+            None => Err(PlanRefused::Cause(Refusal::WrongKey)),
         },
     }
 }
@@ -118,10 +119,10 @@ pub(crate) fn tables_at<'a>(table: &'a Table, key: &str) -> Result<&'a [Value], 
                 if are_tables(values) {
                     Ok(values.as_slice())
                 } else {
-                    Err(PlanRefused::Number(10))
+                    Err(PlanRefused::Cause(Refusal::WrongKey))
                 }
             }
-            None => Err(PlanRefused::Number(10)),
+            None => Err(PlanRefused::Cause(Refusal::WrongKey)),
         },
     }
 }

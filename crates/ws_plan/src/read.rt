@@ -9,7 +9,7 @@ use crate::keys::{integer_at, integer_or, only, some_integer, tables_at};
 use crate::stages::all_placed;
 use std::alloc::Global;
 use toml::Table;
-use ws_flow::Plan;
+use ws_flow::{Plan, Refusal};
 use ws_stages::check;
 
 /// The most bytes of a pipeline file.
@@ -24,7 +24,7 @@ fn version(number: i64) -> Result<(), PlanRefused>
     if 1 <= number && number <= 1 {
         Ok(())
     } else {
-        Err(PlanRefused::Number(12))
+        Err(PlanRefused::Cause(Refusal::OtherVersion))
     }
 }
 
@@ -59,7 +59,7 @@ fn table_in(alloc: Global, text: &[u8]) -> Result<Table, PlanRefused>
             if error.is_memory() {
                 Err(PlanRefused::NoMemory)
             } else {
-                Err(PlanRefused::Number(9))
+                Err(PlanRefused::Cause(Refusal::NotToml))
             }
         }
     }
@@ -70,16 +70,16 @@ fn accepted(plan: Plan) -> Result<Plan, PlanRefused>
 {
     match check(&plan) {
         Ok(()) => Ok(plan),
-        Err(number) => Err(PlanRefused::Number(number)),
+        Err(cause) => Err(PlanRefused::Cause(cause)),
     }
 }
 
-/// Reads a pipeline file: its plan, or the number of its first refusal.
+/// Reads a pipeline file: its plan, or its first refusal.
 pub fn read_plan(alloc: Global, text: &[u8]) -> Result<Plan, PlanRefused>
     ensures { Reads planned_as result (reading text.now) }
 {
     if text.len() > MOST_OF_A_FILE {
-        return Err(PlanRefused::Number(8));
+        return Err(PlanRefused::Cause(Refusal::FileTooLong));
     }
     let table = table_in(alloc, text)?;
     let plan = planned(alloc, &table)?;

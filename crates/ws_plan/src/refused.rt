@@ -1,8 +1,10 @@
+use ws_flow::Refusal;
+
 /// Why the text of a pipeline file is no plan.
-#[derive(Clone, Copy, Debug, PartialEq, Eq)]
+#[derive(Clone, Copy)]
 pub enum PlanRefused {
-    /// The number of the first refusal, as docs/PIPELINE.md has them.
-    Number(u8),
+    /// The first of the causes that is so, in the order of docs/PIPELINE.md.
+    Cause(Refusal),
 
     NoMemory,
 }

@@ -9,7 +9,7 @@ use crate::keys::{integer_or, only, some_integer, some_text};
 use hex::FromHexError;
 use std::alloc::Global;
 use toml::{Table, Value};
-use ws_flow::{Placed, Stage};
+use ws_flow::{Placed, Refusal, Stage};
 use ws_value::Blob;
 
 /// The most bytes of a line or a frame where the file doesn't say.
@@ -48,7 +48,7 @@ fn mask(alloc: Global, table: &Table) -> Result<Stage, PlanRefused>
             key: Blob::from_vec(key),
         }),
         Err(FromHexError::OutOfMemory) => Err(PlanRefused::NoMemory),
-        Err(_) => Err(PlanRefused::Number(10)),
+        Err(_) => Err(PlanRefused::Cause(Refusal::WrongKey)),
     }
 }
 
@@ -74,7 +74,7 @@ fn of_kind(alloc: Global, kind: &str, table: &Table) -> Result<Stage, PlanRefuse
         let max = most(table)?;
         Ok(Stage::Unframe { max })
     } else {
-        Err(PlanRefused::Number(11))
+        Err(PlanRefused::Cause(Refusal::UnknownKind))
     }
 }
 
@@ -92,7 +92,7 @@ fn placed(alloc: Global, value: &Value, before: i64) -> Result<Placed, PlanRefus
 {
     match value.as_table() {
         Some(table) => placed_in(alloc, table, before),
-        None => Err(PlanRefused::Number(10)),
+        None => Err(PlanRefused::Cause(Refusal::WrongKey)),
     }
 }
 

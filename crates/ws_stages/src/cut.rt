@@ -1,4 +1,5 @@
-//! Stages that cut their input into chunks wherever it was cut before: `lines` a line at a time, `fixed` and `unframe` byte by byte.
+//! Stages that cut their input into chunks wherever it was cut before: `lines` a line at a time, `fixed` and `unframe`
+//! byte by byte.
 ghost use Rattle.std.specs.Prelude.{◌≡◌, ◌∷◌, ◌++◌, [], ◌+◌, ◌<◌, ◌≤◌, ◌^◌, OnOk, length, drop};
 ghost use Rattle.ws_flow.specs.declared.plan.Ending.TheVariants.{Fine};
 ghost use Rattle.ws_flow.specs.Stages.{each_byte, line_byte};
@@ -24,7 +25,7 @@ pub struct Cut {
 }
 
 impl Cut {
-    /// These bytes are left over too.
+    /// Adds bytes to what is left over.
     fn keep(&mut self, bytes: &[u8]) -> Result<(), NoMemory>
         requires room { self.old.bytes + length bytes.now < 2 ^ 128 }
         ensures kept { OnOk result (kept_of self.new ≡ with_bytes (kept_of self.old) bytes.now) }
@@ -36,7 +37,8 @@ impl Cut {
         Ok(())
     }
 
-    /// The bytes that are left over, but for the first `n`, become a chunk, without a copy. There is room for as many again.
+    /// The bytes that are left over, but for the first `n`, become a chunk, without a copy. There is room for as many
+    /// again.
     pub fn close_from(&mut self, n: usize) -> Result<(), NoMemory>
         requires { n ≤ length self.old.rest.items }
         ensures rest { OnOk result (self.new.rest.items ≡ []) }

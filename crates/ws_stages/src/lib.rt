@@ -8,4 +8,4 @@ mod work;
 
 pub use refusals::check;
 pub use work::{Pushed, Work};
-pub use ws_flow::{Ending, Placed, Plan, Stage};
+pub use ws_flow::{Ending, Placed, Plan, Refusal, Stage};

@@ -4,7 +4,7 @@ ghost use Rattle.std.specs.List.{list_all};
 ghost use Rattle.ws_flow.specs.Plans.{are_in_order, are_numbers_within, each_has_stage, has_stage, is_abort_within, is_in_range, is_placed_within, is_within, refusal, sees_known_chunks};
 ghost use Rattle.ws_stages.specs.Checks.{answer_of, stages_in};
 
-use ws_flow::{Placed, Plan, Stage};
+use ws_flow::{Placed, Plan, Refusal, Stage};
 
 /// The most stages, workers and stages `hex` of a plan.
 const MOST_STAGES: usize = 16;
@@ -133,35 +133,35 @@ fn each_has_stage(workers: u64, stages: &[Placed]) -> bool
     true
 }
 
-/// Whether a plan is one that can be run, or else the number of the first refusal.
-pub fn check(plan: &Plan) -> Result<(), u8>
+/// Whether a plan is one that can be run, or else its first refusal.
+pub fn check(plan: &Plan) -> Result<(), Refusal>
     ensures { result ≡ answer_of (refusal plan.now) }
 {
     let stages = plan.stages.as_slice();
     if stages.len() > MOST_STAGES {
-        return Err(1);
+        return Err(Refusal::TooManyStages);
     }
     if !are_numbers_within(plan) {
-        return Err(2);
+        return Err(Refusal::OutOfRange);
     }
     let of_hex = stages
         .iter()
         .filter(|placed| matches!(placed.stage, Stage::Hex))
         .count();
     if of_hex > MOST_HEX {
-        return Err(7);
+        return Err(Refusal::TooManyHex);
     }
     if !sees_known_chunks(stages) {
-        return Err(3);
+        return Err(Refusal::SeesCutting);
     }
     if plan.workers > MOST_WORKERS {
-        return Err(4);
+        return Err(Refusal::TooManyWorkers);
     }
     if !are_in_order(stages) {
-        return Err(6);
+        return Err(Refusal::WorkersOutOfOrder);
     }
     if !each_has_stage(plan.workers.unsigned_abs(), stages) {
-        return Err(5);
+        return Err(Refusal::IdleWorker);
     }
     Ok(())
 }

@@ -1,4 +1,5 @@
-//! What stages make of bytes: each one masked, their hexadecimal text, the bytes of such a text, and chunks with a number or a length before them.
+//! What stages make of bytes: each one masked, their hexadecimal text, the bytes of such a text, and chunks with a
+//! number or a length before them.
 ghost use Rattle.std.specs.Prelude.{◌≡◌, ◌∷◌, ◌++◌, ◌+◌, ◌<◌, ◌≤◌, ◌^◌, IfOk, OnOk, [], decimal, length};
 ghost use Rattle.hex.specs.Hex.{encode_lower, hex_digit_value};
 ghost use Rattle.ws_flow.specs.declared.plan.Ending.TheVariants.{Fine};
@@ -15,7 +16,7 @@ use ws_value::{Chunk, NoMemory};
 /// The digits of the largest number of 64 bits.
 const LONGEST_NUMBER: usize = 20;
 
-/// These bytes, each xor the key's byte at its place, the key repeated.
+/// The bytes, each xor the key's byte at its place, the key repeated.
 pub fn masked(alloc: Global, key: &[u8], place: u128, bytes: &[u8]) -> Result<Chunk, NoMemory>
     requires { 0 < length key.now }
     ensures { IfOk result (λ chunk. chunk ≡ masked key.now place bytes.now) }
@@ -108,7 +109,7 @@ pub fn from_hex(cut: &mut Cut, bytes: &[u8]) -> Result<Vec<u8>, NoMemory>
     Ok(text)
 }
 
-/// These bytes with a number and a blank before them.
+/// The bytes with a number and a blank before them.
 pub fn numbered(alloc: Global, number: u64, bytes: &[u8]) -> Result<Chunk, NoMemory>
     ensures { IfOk result (λ chunk. chunk ≡ decimal number ++ 32 ∷ bytes.now) }
 {
@@ -119,7 +120,7 @@ pub fn numbered(alloc: Global, number: u64, bytes: &[u8]) -> Result<Chunk, NoMem
     Ok(Chunk::from_vec(text))
 }
 
-/// These bytes with their number before them, in four bytes.
+/// The bytes with their number before them, in four bytes.
 pub fn framed(alloc: Global, bytes: &[u8]) -> Result<Chunk, NoMemory>
     requires { length bytes.now < 2 ^ 32 }
     ensures { IfOk result (λ chunk. chunk ≡ framed bytes.now) }

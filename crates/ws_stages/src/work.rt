@@ -23,7 +23,8 @@ pub struct Pushed {
     pub ending: Ending,
 }
 
-/// A stage with what it keeps between chunks. After an ending that isn't fine, a flush, or want of memory it is asked nothing more; one that found no memory ended fine.
+/// A stage with what it keeps between chunks. After an ending that isn't fine, a flush, or want of memory it is asked
+/// nothing more; one that found no memory ended fine.
 #[derive(Drop)]
 pub struct Work {
     stage: Stage,
