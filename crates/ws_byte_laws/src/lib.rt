@@ -1,30 +1,66 @@
-//! Laws over every run of a realm: what goes through its byte streams, over every list of calls and jobs and of events that the host takes, from the empty realm.
+//! Laws of what goes through byte streams, and of their descriptors, over every run.
 #![tactic(auto)]
 
 ghost use Rattle.ws_byte_laws.specs.Descriptors.{EachByteStreamIsSound};
 ghost use Rattle.ws_steps.specs.ByteLaws.{EachByteStreamIsLawful, EachByteStep, EachThrowingCloseErrs, EnteredBytesWereAccepted};
 
-/// The order of byte streams. The bytes that were given to reads are the first part of those that entered: by enqueues and by responses. While the stream is readable, those that entered were given or are kept, in this order: filled into the room of the first descriptor, and then queued. Once it is closed, what was given and what is kept is the first part of what entered. Where it closed without a cancel and without a descriptor, all that entered was given.
+/// No byte of a byte stream is doubled or overtaken, and none is lost while the stream is readable, or where it
+/// closed without a cancel and without a descriptor.
+///
+/// The bytes that were given, to reads of either kind and with the close of a room, are the first part of those that
+/// entered: by ReadableByteStreamControllerEnqueue, and by responses to BYOB requests while the stream was readable.
+/// While it is readable, those that entered were given or are kept, in this order: filled into the room of the first
+/// descriptor, and then queued. Once it is closed, what was given and what is kept is the first part of what entered.
+/// Where it closed without a cancel and without a descriptor, all that entered was given.
+///
+/// Of: byte streams, ReadableByteStreamControllerEnqueue, ReadableByteStreamControllerProcessReadRequestsUsingQueue,
+/// ReadableByteStreamControllerProcessPullIntoDescriptorsUsingQueue,
+/// ReadableByteStreamControllerEnqueueDetachedPullIntoToQueue, ReadableByteStreamControllerRespond, the controller's
+/// [[PullSteps]].
 pub fn each_byte_stream_is_lawful()
     ensures { EachByteStreamIsLawful }
 {}
 
-/// One step of a byte stream. Where it is readable before, and after it is readable or closed without a cancel, what was kept and what entered is what is given and what is kept. Once it is closed, what is given and what is kept is the first part of what was kept. In each step what is given is the first part of what was kept and what entered. Nothing enters a stream that isn't readable before, an errored one gives nothing, and neither does one that a cancel closed.
+/// In each step that finds a byte stream readable, what it kept and what entered it is what it gives and what it
+/// keeps then, in order, unless it errors or is cancelled.
+///
+/// This equation holds where the stream is readable before the step, and after it is readable or closed without a
+/// cancel. Once it is closed, what is given and what is kept is the first part of what was kept. In each step what is
+/// given is the first part of what was kept and what entered. Nothing enters a stream that isn't readable before, an
+/// errored one gives nothing, and neither does one that a cancel closed.
+///
+/// Of: byte streams, ReadableByteStreamControllerEnqueue, ReadableByteStreamControllerError.
 pub fn each_byte_step()
     ensures { EachByteStep }
 {}
 
-/// The close of a byte stream whose first descriptor has a part of an element throws a TypeError, and has errored the stream with a TypeError: no queue, no descriptor and no read is left.
+/// The close of a byte stream whose first descriptor has a part of an element throws a TypeError, and has errored the
+/// stream with a TypeError: no queue, no descriptor and no read is left.
+///
+/// Of: byte streams, ReadableByteStreamControllerClose.
 pub fn each_throwing_close_errs()
     ensures { EachThrowingCloseErrs }
 {}
 
-/// What entered a byte stream are the bytes of the calls that enqueue into it and of those that respond to a request of it, where they are answered Done, in the order of these calls.
+/// What entered a byte stream are the bytes of the calls that enqueue into it and of those that respond to a BYOB
+/// request of it, where they are answered Done, in the order of these calls.
+///
+/// Of: byte streams, ReadableByteStreamControllerEnqueue, ReadableByteStreamControllerGetBYOBRequest,
+/// ReadableByteStreamControllerRespond.
 pub fn entered_bytes_were_accepted()
     ensures { EnteredBytesWereAccepted }
 {}
 
-/// The descriptors of every byte stream. While it is readable, each that waits has a minimum of whole elements that isn't reached and fits into its room; only the first may have bytes; where the first is for a BYOB reader the queue is empty and no fewer reads wait than descriptors; where reads of a default reader wait beside a descriptor the queue is empty. A closed stream has no queue, an errored one neither queue nor descriptors. A BYOB request of a readable stream stands for a descriptor, and an errored stream has none.
+/// Each descriptor of a readable byte stream that waits wants whole elements that aren't reached yet and have room,
+/// and only the first has bytes.
+///
+/// The others are for the reader that the stream has. Where the first is for a BYOB reader, the queue is empty and no
+/// fewer reads wait than there are descriptors; where reads of a default reader wait beside a descriptor the queue is
+/// empty. A closed stream has no queue, an errored one neither queue nor descriptors. A BYOB request of a readable
+/// stream stands for a descriptor, and an errored stream has none.
+///
+/// Of: byte streams, ReadableByteStreamControllerPullInto, ReadableByteStreamControllerGetBYOBRequest,
+/// ReadableByteStreamControllerError.
 pub fn each_byte_stream_is_sound()
     ensures { EachByteStreamIsSound }
 {}

@@ -1,4 +1,8 @@
-//! Laws of a chain of links in one realm: a source of the host's own, with a default controller or with a byte controller that allocates no rooms, transform streams whose algorithms are the host's, and a sink of the host's own, with a pipe from each of them to the next.
+//! Laws of what lies on a chain of links, from the opening of its realm on.
+//!
+//! A chain is a source of the host's own, with a default controller or with a byte controller that allocates no
+//! rooms, transform streams whose algorithms are the host's, and a sink of the host's own, with a pipe from each of
+//! them to the next.
 #![tactic(auto)]
 
 ghost use Rattle.ws_chain_laws.specs.Nodes.{EachEventIsHeardAtOneLink, EachNodesCallBrings, EachNodesCallLeaves};
@@ -7,62 +11,133 @@ ghost use Rattle.ws_chain_laws.specs.Outcomes.{EachChainEnds, EachEndWasFlushed}
 ghost use Rattle.ws_chain_laws.specs.Runs.{EachNodeGoes};
 ghost use Rattle.ws_chain_laws.specs.Laws.{EachCallKeepsChain, EachChainHasRoom, EachChainKeeps, EachEventKeepsChain, EachJobKeepsChain};
 
-/// In any run that leaves each link of a chain alone it stays a chain. On each link what the host heard, followed by what is behind it then, is what was behind it before, followed by what entered; or it is a first part of that, and says that it is cut short.
+/// In any run that leaves each link of a chain alone it stays a chain, and on each link no chunk is doubled or
+/// overtaken, and none is lost unless that is told.
+///
+/// In a chain of n transform streams, stream 0 is a source of the host's own, with a default controller or a byte
+/// stream that allocates no rooms, transform stream k takes chunks by stream 2k + 1 and gives them by stream 2k + 2,
+/// stream 2n + 1 is a sink of the host's own, and pipe k goes from stream 2k to stream 2k + 1, each a link with room
+/// for one chunk. On each link what the host heard, followed by what is behind it then, is what was behind it before,
+/// followed by what entered; or it is a first part of that, and says that it is cut short. What enters and what is
+/// heard is told by the number of the link and the number of transform streams.
+///
+/// Of: chains, links.
 pub fn each_chain_keeps()
     ensures { EachChainKeeps }
 {}
 
-/// The same of one call, by which the host hears of nothing.
+/// By a call that leaves each link of a chain alone the chain stays one, the host hears of nothing, and on each link
+/// what is behind the host is what was behind it before, followed by what entered, or a first part of that which says
+/// so.
+///
+/// Of: chains, links.
 pub fn each_call_keeps_chain()
     ensures { EachCallKeepsChain }
 {}
 
-/// The same of one job. It brings nothing but the end of one stream, where it is the reaction to the flush of a transform stream that went well.
+/// By a job a chain stays one, the host hears of nothing, and nothing enters a link but the end of one stream, where
+/// the job is the reaction to the flush of a transform stream that went well.
+///
+/// On each link what is behind the host is what was behind it before, followed by what entered, or a first part of
+/// that which says so.
+///
+/// Of: chains, links, TransformStreamDefaultSinkCloseAlgorithm.
 pub fn each_job_keeps_chain()
     ensures { EachJobKeepsChain }
 {}
 
-/// The same of the taking of one event, by which nothing enters.
+/// By the taking of an event a chain stays one, nothing enters, and on each link what the host heard, followed by
+/// what is behind it then, is what was behind it before, or a first part of that which says so.
+///
+/// Of: chains, links.
 pub fn each_event_keeps_chain()
     ensures { EachEventKeepsChain }
 {}
 
-/// A source with a controller of either kind, any number of transform streams for which there is room, and a sink are made, perhaps a signal, and then the pipes between them, of which the last one has the signal. This is a chain, and nothing lies behind any of its links. Each pipe is answered a promise, which is watched.
+/// A source, any number of transform streams of the host's and a sink that are made and piped one to the next are a
+/// chain, behind whose links nothing lies.
+///
+/// The source has a controller of either kind, and there is room for so many streams. The calls make these streams
+/// with start algorithms of undefined, then perhaps a signal, and then the pipes in order, nothing prevented and the
+/// last with the signal. Each pipe is answered the promise that it keeps, which is watched.
+///
+/// Of: chains, the steps up to the first read.
 pub fn each_chain_begins()
     ensures { EachChainBegins }
 {}
 
-/// A host that settles the calls of its algorithms, enqueues, finishes and terminates, fails a stream that gives chunks, and triggers signals leaves each link of a chain alone.
+/// A host that settles the calls of its algorithms, enqueues, finishes and terminates, fails a stream that gives
+/// chunks, and triggers signals leaves each link of a chain alone.
+///
+/// Of: chains, host calls.
 pub fn each_nodes_call_leaves()
     ensures { EachNodesCallLeaves }
 {}
 
-/// Of these calls an enqueue brings its chunk to one link, unless that is the first, from a byte source, and the chunk isn't bytes or is empty, a finish of the source the end to the first, and a termination of a transform stream the end to the link that comes from it. The others bring nothing.
+/// Of the calls that leave a chain alone an enqueue brings its chunk to one link, a finish of the source the end to
+/// the first, a termination of a transform stream the end to the link that comes from it, and the others nothing.
+///
+/// An enqueue brings it to the link that comes from its stream, unless that is the first, from a byte source, and the
+/// chunk isn't bytes or is empty. A termination of transform stream k brings the end to link k + 1. The calls are
+/// those of `each_nodes_call_leaves`.
+///
+/// Of: chains, TransformStreamDefaultControllerTerminate.
 pub fn each_nodes_call_brings()
     ensures { EachNodesCallBrings }
 {}
 
-/// A write or the close of the sink is heard at the last link, and a chunk or the flush of a transform stream at the link into it; and nothing at others, nor by other events.
+/// A write or the close of the sink of a chain is heard at the last link, a chunk or the flush of a transform stream
+/// at the link into it, and nothing at others, nor by other events.
+///
+/// With n transform streams the last link is link n, and link k goes into transform stream k.
+///
+/// Of: chains, host calls.
 pub fn each_event_is_heard_at_one_link()
     ensures { EachEventIsHeardAtOneLink }
 {}
 
-/// After the opening of a chain and any run: the promises of its pipes are watched. Where nothing came through a transform stream, that of the last pipe is rejected only with a reason that a call gave by which something fails, but with a pair of reasons also where there is a tee, and with a DataCloneError where there is a port. Where it is fulfilled, the sink is closed, and the host settled its close well.
+/// In a realm without tees and ports, where nothing came through a transform stream, the last pipe of a chain is
+/// rejected only with a reason by which a call failed something; and where it is fulfilled, the sink is closed, and
+/// the host settled its close well.
+///
+/// This is said after the opening of a chain and any run. The promises of its pipes are those that they were
+/// answered, and are watched. The first part is said where no call of that run brought anything through a transform
+/// stream; in a realm with a tee the reason may be a pair of reasons too, and in one with a port a DataCloneError.
+/// The second is said of every realm.
+///
+/// Of: chains, reasons, finalize.
 pub fn each_chain_ends()
     ensures { EachChainEnds }
 {}
 
-/// In every run that led to a chain, the next job brings nothing to its links but the end that comes out of a transform stream, and that only where the host settled its flush well.
+/// The next job brings nothing to the links of a chain but the end that comes out of a transform stream, and that
+/// only where the host was called to flush this and settled that call well.
+///
+/// So it is after every run that led to a chain.
+///
+/// Of: chains, host calls, TransformStreamDefaultSinkCloseAlgorithm.
 pub fn each_end_was_flushed()
     ensures { EachEndWasFlushed }
 {}
 
-/// On each link of a chain at most one chunk is in the queue of its destination or in flight, in the pipe, or asked of its source.
+/// On each link of a chain at most one chunk is in the queue of its destination or in flight, in the pipe, or asked
+/// of its source.
+///
+/// Of: chains, backpressure must be enforced.
 pub fn each_chain_has_room()
     ensures { EachChainHasRoom }
 {}
 
-/// From the opening of a chain on, in any run of calls by which a host settles, enqueues, finishes, fails a stream that gives chunks or triggers, of jobs, and of events that it takes: it stays a chain, and on each link what the host heard, followed by what is behind it then, is what was brought to it, or a first part of that which says that it is cut short. The last pipe is rejected only with a reason by which one of these calls fails something, and where it is fulfilled the sink is closed, and the host settled its close well.
+/// From the opening of a chain on, whatever the host settles, enqueues, finishes, fails and triggers, on each link
+/// what the host heard, followed by what is behind it then, is what was brought to it, or a first part of that which
+/// says that it is cut short.
+///
+/// The run has calls by which the host does these, where it fails only streams that give chunks, jobs, and events
+/// that it takes, and the chain stays one; it has no termination. The last pipe is rejected only with a reason by
+/// which one of these calls fails something, and where it is fulfilled the sink is closed, and the host settled its
+/// close well (`each_chain_ends`). The pipelines of `run` are such chains.
+///
+/// Of: chains, host calls, pipes.
 pub fn each_node_goes()
     ensures { EachNodeGoes }
 {}

@@ -1,39 +1,83 @@
-//! Laws of what the readable half of a transform stream wants as a chunk is transformed, where the host enqueues into it only while an algorithm of its transformer is at work.
+//! Laws of which chunks a transform stream is given where one is wanted, by when the host enqueues.
+//!
+//! They speak of hosts that enqueue into the readable half only while an algorithm of its transformer is at work, or
+//! while no write waits for the backpressure to change.
 #![tactic(auto)]
 
 ghost use Rattle.ws_want_laws.specs.WantLaws.{EachAnswerIsRead, EachAnswerIsWanted, EachTransformIsRead, EachTransformIsWanted, NoneGoesOnPressed, NoneWaitsAtWork, NoneWaitsForAnAnswer};
 
-/// In every run in which the host enqueued into the readable half of a transform stream only while no write of the writable half waited for the backpressure to change, no write that waited goes on under backpressure.
+/// Where the host enqueues into the readable half of a transform stream only while no write of the writable half
+/// waits for the backpressure to change, no write that waited goes on under backpressure.
+///
+/// Into most identity transform streams the host enqueues nothing, and so it is there.
+///
+/// Of: transform streams, TransformStreamSetBackpressure, TransformStreamDefaultSinkWriteAlgorithm.
 pub fn none_goes_on_pressed()
     ensures { NoneGoesOnPressed }
 {}
 
-/// So in each step of such a run, where no reader of the readable half was released while a read of it waited, the transform algorithm is performed only where the readable half wants a chunk, or can take none.
+/// Where the host enqueues into the readable half of a transform stream only while no write waits for the
+/// backpressure to change, a chunk is transformed only where that half wants one or can take none.
+///
+/// This is `each_chunk_is_wanted` without its exception, in each step of such a run, where no reader of the readable
+/// half was released while a read of it waited.
+///
+/// Of: transform streams, TransformStreamDefaultControllerPerformTransform, TransformStreamDefaultControllerEnqueue.
 pub fn each_transform_is_wanted()
     ensures { EachTransformIsWanted }
 {}
 
-/// And where the readable half has mark 0 and can take a chunk, it is performed only while a read of that waits.
+/// Where the host enqueues into the readable half of a transform stream only while no write waits for the
+/// backpressure to change, and that half has mark 0 and can take a chunk, a chunk is transformed only while a read of
+/// it waits.
+///
+/// No reader of the readable half was released while a read of it waited, as in `each_transform_is_wanted`.
+///
+/// Of: transform streams, TransformStreamDefaultControllerPerformTransform.
 pub fn each_transform_is_read()
     ensures { EachTransformIsRead }
 {}
 
-/// In every run, while the host is called to start a transform stream or to transform a chunk and hasn't settled that call, and once it was called to flush it, no write of the writable half waits for the backpressure to change.
+/// While the start or the transform algorithm of a transform stream of the host is at work, and from its flush on, no
+/// write of the writable half waits for the backpressure to change.
+///
+/// An algorithm is at work from the event by which the host is called until it settles that call.
+///
+/// Of: transform streams, TransformStreamDefaultSinkWriteAlgorithm, InitializeTransformStream.
 pub fn none_waits_for_an_answer()
     ensures { NoneWaitsForAnAnswer }
 {}
 
-/// And while the host is called to cancel it and hasn't settled that call, this is so, or the readable half can take no chunk.
+/// While the cancel algorithm of a transform stream of the host is at work, no write of the writable half waits for
+/// the backpressure to change, or the readable half can take no chunk.
+///
+/// It is at work from the event by which the host is called until it settles that call.
+///
+/// Of: transform streams, TransformStreamDefaultSinkWriteAlgorithm, TransformStreamDefaultSourceCancelAlgorithm,
+/// TransformStreamDefaultSinkAbortAlgorithm.
 pub fn none_waits_at_work()
     ensures { NoneWaitsAtWork }
 {}
 
-/// So in each step of a run in which the host enqueued into the readable half only while an algorithm of its transformer was at work (from the call of its start, transform or cancel algorithm until the host settles that, and from the flush on), and no reader of that was released while a read of it waited, the transform algorithm is performed only where the readable half wants a chunk, or can take none.
+/// Where the host enqueues into the readable half of its transform stream only while an algorithm of its transformer
+/// is at work, a chunk is transformed only where that half wants one or can take none.
+///
+/// An algorithm is at work from the event that calls its start, transform or cancel algorithm until the host settles
+/// that call, and from the one that calls it to flush on. This is `each_chunk_is_wanted` without its exception, in
+/// each step of such a run, where no reader of the readable half was released while a read of it waited. (A worked
+/// example has a host that keeps to that, and one that doesn't.)
+///
+/// Of: transform streams, TransformStreamDefaultControllerPerformTransform, TransformStreamDefaultControllerEnqueue.
 pub fn each_answer_is_wanted()
     ensures { EachAnswerIsWanted }
 {}
 
-/// And where the readable half has mark 0 and can take a chunk, it is performed only while a read of that waits.
+/// Where the host enqueues into the readable half of its transform stream only while an algorithm of its transformer
+/// is at work, and that half has mark 0 and can take a chunk, a chunk is transformed only while a read of it waits.
+///
+/// No reader of the readable half was released while a read of it waited, as in `each_answer_is_wanted`.
+///
+/// Of: transform streams, TransformStreamDefaultControllerPerformTransform.
 pub fn each_answer_is_read()
     ensures { EachAnswerIsRead }
 {}
