@@ -1,5 +1,5 @@
 -- What calls begin with keeps that nothing bad stands anywhere, where the reasons that they give aren't bad.
-use Rattle.std.proofs.Common.{◌≡◌, ℕ, suc, ◌+◌, ◌*◌, ◌≤◌, ◌<◌, Bool, true, false, nat_eq, nat_lt, ◌&&◌, if◌then◌else◌, List, [], ◌∷◌, ◌++◌, length, map, Option, Some, None, Result, Ok, Err, slice_get, refl, ap, subst, ◌∙◌, arith}
+use Rattle.std.proofs.Common.{◌≡◌, ℕ, suc, ◌+◌, ◌*◌, ◌≤◌, ◌<◌, Bool, true, false, nat_eq, nat_lt, ◌&&◌, if◌then◌else◌, List, [], ◌∷◌, ◌++◌, length, Option, Some, None, Result, Ok, Err, slice_get, refl, ap, subst, ◌∙◌, arith}
 use Rattle.ws_value.specs.declared.ids.PipeId.{PipeId}
 use Rattle.ws_value.specs.declared.ids.PromiseId.{PromiseId}
 use Rattle.ws_value.specs.declared.ids.SignalId.{SignalId}
@@ -47,13 +47,12 @@ use Rattle.ws_steps.specs.Cross as cross
 use Rattle.ws_steps.specs.Transform as transform
 use Rattle.ws_steps.specs.Writable as writable
 use Rattle.ws_laws.proofs.EachCall.{each_call}
-use Rattle.ws_laws.proofs.Ended.{port_shape}
 use Rattle.ws_laws.proofs.Shapes.{tee_shape}
 use Rattle.ws_reason_laws.proofs.InTable.{fresh-keeps, fresh-count}
 use Rattle.ws_reason_laws.proofs.Known.{Badness, class, teed_at, teed-at, Known, known-new, known-turn, known-next, known-same}
 use Rattle.ws_reason_laws.proofs.Readables.{effects-append}
 use Rattle.ws_reason_laws.proofs.Rows.{in_signal, signal-there}
-use Rattle.ws_reason_laws.proofs.Teed.{teed-more, teed-last, Paired, Ported, Fair, tee_last}
+use Rattle.ws_reason_laws.proofs.Teed.{teed-more, teed-last, Paired, tee_last}
 use Rattle.ws_reason_laws.proofs.Weights.{in_reader, in_tee, in_tees, in_port, in_ports, of_message, Class, of_reason, soft, settles, in_effects, in_stream, in_streams, in_pipe, in_pipes, in_signals, of_kind, in_transform, in_transforms, in_slots, in_table, loud, AllGood, count}
 use Rattle.ws_steps.specs.Slots.{ByteStream}
 use Rattle.ws_steps.specs.Bytes as byte
@@ -151,7 +150,7 @@ signals-append k (x ∷ xs) = let h = signals-append k xs in omega (arith, h)
 
 module _ (bad : Badness) (me : PipeId) (own : Option ℕ) (s : Slots) (known : Known bad me own s []) where
   abbrev Begins : Begun → Type 0
-  Begins b = bad_begun bad b ≡ 0 → of_kinds bad.of b.done.slots.transforms ≡ 0 → Fair bad.of b.done.slots → Known bad me own b.done.slots b.done.caused
+  Begins b = bad_begun bad b ≡ 0 → of_kinds bad.of b.done.slots.transforms ≡ 0 → Paired bad.of b.done.slots → Known bad me own b.done.slots b.done.caused
 
   -- a soft one and a loud one
   soft_one : (f tees : ℕ → Bool) (n : ℕ) → f n ≡ false → soft (class bad me f tees) n ≡ 0
@@ -376,15 +375,15 @@ module _ (bad : Badness) (me : PipeId) (own : Option ℕ) (s : Slots) (known : K
       with_start k ReadableSide h = omega (arith, h)
       with_start k WritableSide h = omega (arith, h)
 
-  port-known : (j : StreamId) (side : Side) → bad.of cross.data_clone ≡ 0 → Known bad me own (pipe_calls.add_port j s side) []
-  port-known j ReadableSide fair =
+  port-known : (j : StreamId) (side : Side) → Known bad me own (pipe_calls.add_port j s side) []
+  port-known j ReadableSide =
       plain-known (pipe_calls.add_port j s ReadableSide) [] refl refl
       (λ f tees g.
       let k : Class = class bad me f tees in
       let a = streams-append k 0 s.streams (pipe_calls.end_of (record { 0 = length s.ports }) ReadableSide) (length s.streams) (omega arith) (omega (arith, g)) refl in
       let b = ports-append k s.ports (cross.set_up ReadableSide j None) in
-      omega (arith, g, a, b, fair))
-  port-known j WritableSide fair =
+      omega (arith, g, a, b))
+  port-known j WritableSide =
       let t : Table = s.promises in
       let c = fresh-count t in
       known-next bad me own s (pipe_calls.add_port j s WritableSide) [] [] (λ i. true) known refl (omega (arith, c))
@@ -394,19 +393,7 @@ module _ (bad : Badness) (me : PipeId) (own : Option ℕ) (s : Slots) (known : K
       let a = streams-append k 0 s.streams (pipe_calls.end_of (record { 0 = length s.ports }) WritableSide) (length s.streams) (omega arith) (omega (arith, g)) refl in
       let b = ports-append k s.ports (cross.set_up WritableSide j (Some (record { 0 = count t }))) in
       let p = fresh-keeps k t (omega (arith, g)) in
-      omega (arith, g, a, b, l, p, fair))
-
-  -- where a port is there last, its DataCloneError isn't bad
-  last-fair : (z : Slots) (y : cross.Slots) → z.ports ≡ s.ports ++ y ∷ [] → Ported bad.of z → bad.of cross.data_clone ≡ 0
-  last-fair z y e h = h (record { 0 = length s.ports }) (port_shape y) (rw e (port_last s.ports y))
-    where
-      port_last : (xs : List cross.Slots) (x : cross.Slots) → slice_get (map port_shape (xs ++ x ∷ [])) (length xs) ≡ Some (port_shape x)
-      port_last [] x = refl
-      port_last (y ∷ xs) x = port_last xs x
-
-  side-fair : (j : StreamId) (side : Side) → Ported bad.of (pipe_calls.add_port j s side) → bad.of cross.data_clone ≡ 0
-  side-fair j ReadableSide h = last-fair (pipe_calls.add_port j s ReadableSide) (cross.set_up ReadableSide j None) refl h
-  side-fair j WritableSide h = last-fair (pipe_calls.add_port j s WritableSide) (cross.set_up WritableSide j (Some (record { 0 = count s.promises }))) refl h
+      omega (arith, g, a, b, l, p))
 
   message-good : (f tees : ℕ → Bool) (m : Message) → bad_message bad m ≡ 0 → of_message (class bad me f tees) m ≡ 0
   message-good f tees PullMessage h = refl
@@ -415,14 +402,14 @@ module _ (bad : Badness) (me : PipeId) (own : Option ℕ) (s : Slots) (known : K
   message-good f tees (ErrorMessage r) h = h
 
   -- where what makes a pipe behind a port is known
-  known-with : ((j : StreamId) (side : Side) (source dest : StreamId) → Ported bad.of (pipe_calls.add_port j s side)
+  known-with : ((j : StreamId) (side : Side) (source dest : StreamId)
       → Known bad me own (pipe_calls.pipe_to source dest pipe_calls.no_prevent None (pipe_calls.add_port j s side)).done.slots (pipe_calls.pipe_to source dest pipe_calls.no_prevent None (pipe_calls.add_port j s side)).done.caused)
       → (c : Call) → Begins (begin c s)
   known-with piped_behind c =
       each_call Begins c s (record {
         unchanged = λ reply b n pairs. known;
         rejected = λ b n pairs. promising-known (λ p. Settle p (Err type_error) ∷ []) false (λ f tees p e. let z = settles_one f tees p.0 type_error e in omega (arith, z));
-        make_tee = λ i e there free untied b n pairs. tee-known i _ _ pairs.0;
+        make_tee = λ i e there free untied b n pairs. tee-known i _ _ pairs;
         make_readable = λ mark size start b n pairs. plain-known _ _ refl refl (λ f tees g. let a = streams-append (class bad me f tees) 0 s.streams (ReadableStream (readable.set_up Host mark size)) (length s.streams) (omega arith) (omega (arith, g)) refl in omega (arith, g, a));
         make_writable = λ mark size start b n pairs. plain-known _ _ refl refl (λ f tees g. let a = streams-append (class bad me f tees) 0 s.streams (WritableStream (writable.set_up Host mark size)) (length s.streams) (omega arith) (omega (arith, g)) refl in omega (arith, g, a));
         get_byob = λ i is e b n pairs.
@@ -471,9 +458,9 @@ module _ (bad : Badness) (me : PipeId) (own : Option ℕ) (s : Slots) (known : K
         fail_writable = λ i reason b n pairs. plain-known s _ refl refl (λ f tees g. omega (arith, g, b));
         pipe = λ source dest prevent signal e f l m b n pairs. pipe-known source dest prevent signal;
         make_signal = λ b n pairs. plain-known _ _ refl refl (λ f tees g. let a = signals-append (class bad me f tees) s.signals in omega (arith, g, a));
-        open_end = λ side b n pairs. let j : StreamId = record { 0 = length s.streams } in started (pipe_calls.add_port j s side) [] j side (port-known j side (side-fair j side pairs.1));
-        send_readable = λ i there free b n pairs. let j : StreamId = record { 0 = length s.streams } in started _ _ j WritableSide (piped_behind j WritableSide i j pairs.1);
-        send_writable = λ i there free b n pairs. let j : StreamId = record { 0 = length s.streams } in started _ _ j ReadableSide (piped_behind j ReadableSide j i pairs.1);
+        open_end = λ side b n pairs. let j : StreamId = record { 0 = length s.streams } in started (pipe_calls.add_port j s side) [] j side (port-known j side);
+        send_readable = λ i there free b n pairs. let j : StreamId = record { 0 = length s.streams } in started _ _ j WritableSide (piped_behind j WritableSide i j);
+        send_writable = λ i there free b n pairs. let j : StreamId = record { 0 = length s.streams } in started _ _ j ReadableSide (piped_behind j ReadableSide j i);
         deliver = λ p m e is b n pairs. plain-known s _ refl refl (λ f tees g. let d = message-good f tees m (omega (arith, b)) in omega (arith, g, d));
         trigger = λ a reason b n pairs. plain-known s _ refl refl (λ f tees g. omega (arith, g, b));
         settle = λ h answer p e b n pairs. plain-known _ _ refl refl (λ f tees g. grind (arith, g, b));
@@ -482,4 +469,4 @@ module _ (bad : Badness) (me : PipeId) (own : Option ℕ) (s : Slots) (known : K
 pub call-known : (bad : Badness) (me : PipeId) (own : Option ℕ) (s : Slots) (known : Known bad me own s []) (c : Call) → Begins bad me own s known (begin c s)
 call-known bad me own s known c =
     known-with bad me own s known
-    (λ j side source dest fair. let z : Slots = pipe_calls.add_port j s side in pipe-known bad me own z (port-known bad me own s known j side (side-fair bad me own s known j side fair)) source dest pipe_calls.no_prevent None) c
+    (λ j side source dest. let z : Slots = pipe_calls.add_port j s side in pipe-known bad me own z (port-known bad me own s known j side) source dest pipe_calls.no_prevent None) c

@@ -41,7 +41,7 @@ use Rattle.ws_reason_laws.proofs.Moments.{moment-empty}
 use Rattle.ws_reason_laws.proofs.Newly.{made-opens}
 use Rattle.ws_reason_laws.proofs.Opening.{NewOpens}
 use Rattle.ws_reason_laws.proofs.Runs.{Whole, call-whole, run_then, bad_run, first-good, run-whole}
-use Rattle.ws_reason_laws.proofs.Teed.{Paired, Fair, fair-before}
+use Rattle.ws_reason_laws.proofs.Teed.{Paired, Ported, Fair, fair-before, fair-begun}
 use Rattle.ws_reason_laws.proofs.Weights.{Class, in_outcome, in_entry, in_table, bad_of, minds, count}
 
 none_some : (y : pipe.Slots) → ◌≡◌ {A = Option pipe.Slots} None (Some y) → ⊥
@@ -89,12 +89,12 @@ module _ (i j : StreamId) (prevent : Prevent) (signal : Option SignalId) (s : Sl
   abbrev c : Call
   c = Pipe i j prevent signal
 
-  begin-is : (q : PromiseId) → AreUnlocked i j s → reply_to c s ≡ Promise q → begin c s ≡ made
+  pub begin-is : (q : PromiseId) → AreUnlocked i j s → reply_to c s ≡ Promise q → begin c s ≡ made
   unfolding begin
   begin-is q f e = let x = f.source in let y = f.dest in let z = f.source_unlocked in let w = f.dest_unlocked in grind (arith, x, y, z, w, e)
 
   -- its promise is the fourth that the call makes
-  promise-is : (q : PromiseId) → begin c s ≡ made → reply_to c s ≡ Promise q → q.0 ≡ count s.promises + 3
+  pub promise-is : (q : PromiseId) → begin c s ≡ made → reply_to c s ≡ Promise q → q.0 ≡ count s.promises + 3
   promise-is q b e =
       let t : Table = s.promises in
       let r : ◌≡◌ {A = Reply} (Promise (next_id (fresh (fresh (fresh t))))) (Promise q) = sym (ap (λ (z : Begun). z.reply) b) ∙ e in
@@ -110,9 +110,9 @@ minded bad me i prevent m = grind (arith, m)
 
 -- the call that makes it, where what it brings isn't bad
 pipe-whole : (bad : Badness) (opening : List Entry) (i j : StreamId) (prevent : Prevent) (signal : Option SignalId) (q : PromiseId) → let s : Slots = run opening empty in
-    let me : PipeId = record { 0 = length s.pipes } in let c : Call = Pipe i j prevent signal in AreUnlocked i j s → reply_to c s ≡ Promise q → (nat_eq (bad.of type_error) 0 ≡ false → IsOpen j s) → bad_call bad c s ≡ 0 → Halved bad.half (begin c s).done.slots
+    let me : PipeId = record { 0 = length s.pipes } in let c : Call = Pipe i j prevent signal in AreUnlocked i j s → reply_to c s ≡ Promise q → (nat_eq (bad.of type_error) 0 ≡ false → IsOpen j s) → bad_call bad c s ≡ 0 → Ported bad.of (begin c s).done.slots → Halved bad.half (begin c s).done.slots
     → Whole bad me None s [] → Whole bad me (Some q.0) (step s (Called c)) []
-pipe-whole bad opening i j prevent signal q f e ready good there w =
+pipe-whole bad opening i j prevent signal q f e ready good ported there w =
     let s : Slots = run opening empty in
     let me : PipeId = record { 0 = length s.pipes } in
     let c : Call = Pipe i j prevent signal in
@@ -121,7 +121,7 @@ pipe-whole bad opening i j prevent signal q f e ready good there w =
     let new : NewOpens mind me c s = rw b (λ x none there m g. made-opens mind me s i j prevent signal (λ n. let o = ready (minded bad me i prevent n) in record { closing = o.closing; closed = o.closed }) x none there m g) in
     let known : Known bad me (Some q.0) (begin c s).done.slots (begin c s).done.caused =
     rw b (own-known bad me None s w.known i j prevent signal q.0 refl (promise-is i j prevent signal s q b e)) in
-    call-whole bad me None opening c good there new (Some q.0) known w
+    call-whole bad me None opening c good ported there new (Some q.0) known w
 
 -- from nothing
 
@@ -145,12 +145,15 @@ rejected-good k n (Some x) r h e g =
     some_outcome : (o p : Outcome) → ◌≡◌ {A = Option Outcome} (Some o) (Some p) → o ≡ p
     some_outcome o p e = cc
 
-whole_rejected : (bad : Badness) (me : PipeId) (q : PromiseId) (s : Slots) (r : Plain) → Whole bad me (Some q.0) s [] → outcome_at s.promises q ≡ Some (Rejected r) → bad.of r ≡ 0
-whole_rejected bad me q s r w out =
-    let f : ℕ → Bool = w.known.hands in
-    let g = w.known.good f (teed_at s) (λ i h. refl) (teed-at s) in
+pub known_rejected : (bad : Badness) (me : PipeId) (q : PromiseId) (s : Slots) (r : Plain) → Known bad me (Some q.0) s [] → outcome_at s.promises q ≡ Some (Rejected r) → bad.of r ≡ 0
+known_rejected bad me q s r k out =
+    let f : ℕ → Bool = k.hands in
+    let g = k.good f (teed_at s) (λ i h. refl) (teed-at s) in
     let e = entry-good (class bad me f (teed_at s)) q s.promises (omega (arith, g)) in
-    rejected-good (class bad me f (teed_at s)) q.0 (entry_at s.promises q) r e out w.known.mine.1
+    rejected-good (class bad me f (teed_at s)) q.0 (entry_at s.promises q) r e out k.mine.1
+
+whole_rejected : (bad : Badness) (me : PipeId) (q : PromiseId) (s : Slots) (r : Plain) → Whole bad me (Some q.0) s [] → outcome_at s.promises q ≡ Some (Rejected r) → bad.of r ≡ 0
+whole_rejected bad me q s r w out = known_rejected bad me q s r w.known out
 
 -- the law
 
@@ -179,7 +182,7 @@ good-rejection bad opening xs i j prevent signal q r good halved fairs free repl
     let pairs : Fair bad.of (run (Called c ∷ xs) s) = subst (Fair bad.of) rest fairs in
     let w1 : Whole bad me None s [] =
     run-whole bad me None (Before me) (λ s x xs f. f) (before-new mind me) [] opening (pipe_past s.pipes) (omega (arith, a, good)) (halved-before bad.half (Called c ∷ xs) s later) (fair-before bad.of (Called c ∷ xs) s pairs) (whole-empty bad me) in
-    let w2 : Whole bad me (Some q.0) (step s (Called c)) [] = pipe-whole bad opening i j prevent signal q free reply ready (omega (arith, a, d, good)) (halved-begun bad.half c xs s later) w1 in
+    let w2 : Whole bad me (Some q.0) (step s (Called c)) [] = pipe-whole bad opening i j prevent signal q free reply ready (omega (arith, a, d, good)) (fair-begun bad.of c xs s pairs).1 (halved-begun bad.half c xs s later) w1 in
     let pre : List Entry = opening ++ Called c ∷ [] in
     let at : run pre empty ≡ step s (Called c) = run_then opening (Called c ∷ []) empty in
     let t = (each_pipe_stays me s).in_call c (pipe.set_up i j prevent signal (next_id (fresh (fresh (fresh s.promises))))) (there (begin-is i j prevent signal s q free reply)) in

@@ -1,5 +1,5 @@
 -- Operations of a port keep that nothing bad stands in it, in the promises and in what they cause, where its new promises hand on, and a
--- DataCloneError isn't bad.
+-- DataCloneError isn't bad where one comes of them.
 use Rattle.std.proofs.Common.{◌≡◌, ℕ, ◌+◌, ◌≤◌, ◌<◌, Bool, true, false, List, [], ◌∷◌, Option, Some, None, Err, refl, arith}
 use Rattle.ws_value.specs.declared.ids.PortId.{PortId}
 use Rattle.ws_value.specs.declared.ids.PromiseId.{PromiseId}
@@ -32,6 +32,12 @@ use Rattle.ws_reason_laws.proofs.Weights.{Class, loud, loud_one, of_use, of_resu
 abbrev size : Acts → ℕ
 size a = count a.out.promises
 
+-- a DataCloneError isn't bad where a reason is posted that can't be cloned, or a chunk, where `clones` tells that of the first one
+abbrev pub Clones : (Plain → ℕ) → Bool → PortOperation → Type 0
+Clones bad clones (names.Leave r u) = is_cloneable r ≡ false → bad data_clone ≡ 0
+Clones bad clones (names.WriteGoesOn d) = clones ≡ false → bad data_clone ≡ 0
+Clones bad clones _ = Unit {0}
+
 module _ (k : Class) (me : PortId) (m : ℕ) where
   -- nothing bad stands in it
   abbrev Good : Acts → Type 0
@@ -59,16 +65,16 @@ module _ (k : Class) (me : PortId) (m : ℕ) where
   fail-good message a true h = post-good message a h
   fail-good message a false h = post-good (ErrorMessage data_clone) a h
 
-  posted-good : (a : Acts) (clones : Bool) → Good a → of_result k (posted clones) ≡ 0
-  posted-good a true h = refl
-  posted-good a false h = omega (arith, h)
+  posted-good : (clones : Bool) → (clones ≡ false → k.bad data_clone ≡ 0) → of_result k (posted clones) ≡ 0
+  posted-good true n = refl
+  posted-good false n = n refl
 
-  leave-good : (r : Plain) (u : Use) (a : Acts) → of_use k u ≡ 0 → Good a → Good (leave me r u a)
+  leave-good : (r : Plain) (u : Use) (a : Acts) → (is_cloneable r ≡ false → k.bad data_clone ≡ 0) → of_use k u ≡ 0 → Good a → Good (leave me r u a)
   unfolding leave
-  leave-good r u a z h =
+  leave-good r u a n z h =
       let b : Acts = disentangle (post_or_fail me (ErrorMessage r) a (is_cloneable r)) in
       let g : Good b = fail-good (ErrorMessage r) a (is_cloneable r) h in
-      let p = posted-good a (is_cloneable r) h in
+      let p = posted-good (is_cloneable r) n in
       causing-good b (Give (Fresh (posted (is_cloneable r))) u ∷ []) (omega (arith, z, p)) g
 
   close-good : (u : Use) (a : Acts) → of_use k u ≡ 0 → Good a → Good (close me u a)
@@ -95,26 +101,27 @@ module _ (k : Class) (me : PortId) (m : ℕ) where
       let y = used (size a) u one z in
       causing-good b (wait_for a.slots.backpressure me d ∷ Give (This d) u ∷ []) (omega (arith, w, y)) e
 
-  hand-good : (d : PromiseId) (a : Acts) (clones : Bool) → Good a → Good (hand_on me d a clones)
-  hand-good d a true h = causing-good a (OnWritable a.slots.stream (HandOn (ToPort me d)) ∷ []) refl h
-  hand-good d a false h =
+  hand-good : (d : PromiseId) (a : Acts) (clones : Bool) → (clones ≡ false → k.bad data_clone ≡ 0) → Good a → Good (hand_on me d a clones)
+  hand-good d a true n h = causing-good a (OnWritable a.slots.stream (HandOn (ToPort me d)) ∷ []) refl h
+  hand-good d a false n h =
       let b : Acts = disentangle (post me (ErrorMessage data_clone) a) in
       let g : Good b = post-good (ErrorMessage data_clone) a h in
-      causing-good b (Give (Fresh (Err data_clone)) (Resolve d) ∷ []) (omega (arith, h)) g
+      let c = n refl in
+      causing-good b (Give (Fresh (Err data_clone)) (Resolve d) ∷ []) (omega (arith, c)) g
 
   hand-size : (d : PromiseId) (a : Acts) (clones : Bool) → size (hand_on me d a clones) ≡ size a
   hand-size d a true = refl
   hand-size d a false = either (λ (z : Acts). size z ≡ size a) a.slots.live (posting me (ErrorMessage data_clone) a) a (λ e. refl) (λ e. refl)
 
-  goes-good : (clones : Bool) (d : PromiseId) (a : Acts) (p : Option PromiseId) → loud_one k p ≡ 0 → Louds (size a) → Good a → Ending (go_on me clones d a p)
-  goes-good clones d a None z l h q =
+  goes-good : (clones : Bool) (d : PromiseId) (a : Acts) (p : Option PromiseId) → (clones ≡ false → k.bad data_clone ≡ 0) → loud_one k p ≡ 0 → Louds (size a) → Good a → Ending (go_on me clones d a p)
+  goes-good clones d a None can z l h q =
       let c = fresh-count a.out.promises in
       let n = hand-size d (hold_back a) clones in
       let one : loud k (size a) ≡ 0 = l (size a) (omega arith) (omega (arith, c, n, q)) in
       let f = fresh-keeps k a.out.promises (omega (arith, h)) in
       let e : Good (hold_back a) = omega (arith, h, f, one) in
-      hand-good d (hold_back a) clones e
-  goes-good clones d a (Some p) z l h q = causing-good a (wait_for (Some p) me d ∷ []) (wait-good (Some p) d z) h
+      hand-good d (hold_back a) clones can e
+  goes-good clones d a (Some p) can z l h q = causing-good a (wait_for (Some p) me d ∷ []) (wait-good (Some p) d z) h
 
   chunk-good : (v : Value) (d : PromiseId) (a : Acts) → Good a → Good (post_chunk me v d a)
   unfolding post_chunk
@@ -137,14 +144,14 @@ module _ (k : Class) (me : PortId) (m : ℕ) where
   delivered-good (ErrorMessage r) a WritableSide z h =
       causing-good a (OnWritable a.slots.stream (ErrorIfNeeded r) ∷ OnPort me names.Unblock ∷ []) (omega (arith, z)) h
 
-  pub port-good : (clones : Bool) (operation : PortOperation) (a : Acts) → of_port k operation ≡ 0 → Louds (size a) → Good a → Ending (port_operation me clones operation a)
+  pub port-good : (clones : Bool) (operation : PortOperation) (a : Acts) → Clones k.bad clones operation → of_port k operation ≡ 0 → Louds (size a) → Good a → Ending (port_operation me clones operation a)
   unfolding pull write_goes_on deliver unblock
-  port-good clones names.Pull a f l h = λ q. post-good PullMessage a h
-  port-good clones (names.Leave r u) a f l h = λ q. leave-good r u a f h
-  port-good clones (names.Write u) a f l h = write-good u a f l h
-  port-good clones (names.WriteGoesOn d) a f l h = goes-good clones d a a.slots.backpressure (omega (arith, h)) l h
-  port-good clones (names.PostChunk v d) a f l h = λ q. chunk-good v d a h
-  port-good clones (names.Close u) a f l h = λ q. close-good u a f h
-  port-good clones (names.Deliver message) a f l h = λ q.
+  port-good clones names.Pull a n f l h = λ q. post-good PullMessage a h
+  port-good clones (names.Leave r u) a n f l h = λ q. leave-good r u a n f h
+  port-good clones (names.Write u) a n f l h = write-good u a f l h
+  port-good clones (names.WriteGoesOn d) a n f l h = goes-good clones d a a.slots.backpressure n (omega (arith, h)) l h
+  port-good clones (names.PostChunk v d) a n f l h = λ q. chunk-good v d a h
+  port-good clones (names.Close u) a n f l h = λ q. close-good u a f h
+  port-good clones (names.Deliver message) a n f l h = λ q.
       either Good a.slots.live (deliver_to me message a a.slots.side) a (λ e. delivered-good message a a.slots.side f h) (λ e. h)
-  port-good clones names.Unblock a f l h = λ q. unblock-good a a.slots.backpressure h
+  port-good clones names.Unblock a n f l h = λ q. unblock-good a a.slots.backpressure h

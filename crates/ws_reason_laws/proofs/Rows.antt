@@ -57,7 +57,7 @@ use Rattle.ws_reason_laws.proofs.Bytes.{inner, byte_readable-good, byte-good}
 use Rattle.ws_reason_laws.proofs.Erring.{errs}
 use Rattle.ws_reason_laws.proofs.Readables.{Good, lets_go, effects-append, readable-good}
 use Rattle.ws_reason_laws.proofs.Tees.{tee-good}
-use Rattle.ws_reason_laws.proofs.Ports.{port-good}
+use Rattle.ws_reason_laws.proofs.Ports.{Clones, port-good}
 use Rattle.ws_reason_laws.proofs.Transforms.{transform-good}
 use Rattle.ws_reason_laws.proofs.Weights.{Class, of_result, of_reason, cancelled, of_step, soft, loud, loud_one, settles, in_table, in_request, uses, of_use, gives, of_readable, of_byte, of_writable, of_pipe, of_signal, of_transform, of_tee, of_port, soft_reader, in_reader, in_effect, in_effects, is_errored, in_readable, has_error, in_writable, in_stream, in_streams, in_pipe, in_pipes, in_signals, minds, in_ends, in_transform, in_transforms, in_halves, in_tee, in_tees, in_port, in_ports, in_slots, AllGood, count}
 use Rattle.ws_reason_laws.proofs.Writables.{Expects, writable-good}
@@ -176,6 +176,7 @@ Fits bad half me (Writable i operation) s = has_writable i s ≡ true → Expect
 Fits bad half me (Pipe p operation) s = (x : pipe.Slots) → slice_get s.pipes p.0 ≡ Some x → Finds (minds bad half me p x.source x.prevent) (ends_at x s) x
 Fits bad half me (Readable i operation) s = (errs (Readable i operation) s ≡ true → bad type_error ≡ 0) × (lets_go operation ≡ true → is_teed i s ≡ false)
 Fits bad half me (Byte i operation) s = errs (Byte i operation) s ≡ true → bad type_error ≡ 0
+Fits bad half me (Port c operation) s = (x : cross.Slots) → slice_get s.ports c.0 ≡ Some x → Clones bad (clones_at x s) operation
 Fits bad half me (CancelAlgorithm i r p) s = is_half (owner_at i s) ≡ true → half i.0 ≡ true
 Fits bad half me _ s = Unit {0}
 
@@ -380,14 +381,14 @@ module _ (k : Class) (m : ℕ) where
       all_loud : (i : ℕ) → k.hands i ≡ true → loud k i ≡ 0
       all_loud i e = grind (arith, e)
 
-  port-row : (t : PortId) (operation : PortOperation) (s : Slots) (o : Option cross.Slots) → slice_get s.ports t.0 ≡ o → in_slots k s ≡ 0 → of_port k operation ≡ 0 → News s true
+  port-row : (t : PortId) (operation : PortOperation) (s : Slots) (o : Option cross.Slots) → slice_get s.ports t.0 ≡ o → ((x : cross.Slots) → o ≡ Some x → Clones k.bad (clones_at x s) operation) → in_slots k s ≡ 0 → of_port k operation ≡ 0 → News s true
       → Until (on_port_at (λ clones. port_operation t clones operation) t s o)
-  port-row t operation s None e h f l q = omega (arith, h)
-  port-row t operation s (Some x) e h f l q =
+  port-row t operation s None e n h f l q = omega (arith, h)
+  port-row t operation s (Some x) e n h f l q =
       let there : in_port k x ≡ 0 = subst (λ (o : Option cross.Slots). in_end k o ≡ 0) e (port-there k s.ports t.0 (omega (arith, h))) in
       let a : cross.Acts = record { slots = x; out = found s } in
       let b : cross.Acts = port_operation t (clones_at x s) operation a in
-      let g = port-good k t m (clones_at x s) operation a f (λ i n z. all_loud i (l i n z)) (omega (arith, h, there)) q in
+      let g = port-good k t m (clones_at x s) operation a (n x refl) f (λ i n z. all_loud i (l i n z)) (omega (arith, h, there)) q in
       let z = ports-set k s.ports t.0 b.slots (omega (arith, h)) (omega (arith, g)) in
       omega (arith, h, g, z)
     where
@@ -499,7 +500,7 @@ module _ (k : Class) (m : ℕ) where
   row-good (Signal a operation) s h f x gone l q = signal-row a operation s (slice_get s.signals a.0) refl h f
   row-good (Transform t operation) s h f x gone l q = transform-row t operation s (slice_get s.transforms t.0) refl h f l q
   row-good (Tee t operation) s h f x gone l q = tee-row t operation s (slice_get s.tees t.0) refl h f l q
-  row-good (Port t operation) s h f x gone l q = port-row t operation s (slice_get s.ports t.0) refl h f l q
+  row-good (Port t operation) s h f x gone l q = port-row t operation s (slice_get s.ports t.0) refl x h f l q
   row-good (StartAlgorithm i step start) s h f x gone l q = start-row i step s start h f l q
   row-good (PullAlgorithm i) s h f x gone l q = promises-row s s.promises s.hosts _ h (omega (arith, h)) (pulls i (React (ReadablePull i) None) (owner_at i s) refl)
   row-good (CancelAlgorithm i r p) s h f x gone l q = promises-row s s.promises s.hosts _ h (omega (arith, h)) (cancels i r (React ReturnUndefined (Some p)) (owner_at i s) f x refl)

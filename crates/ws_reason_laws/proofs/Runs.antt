@@ -1,5 +1,5 @@
 -- What holds of reasons at each moment goes on through calls, jobs and runs, where the reasons that calls give aren't bad.
-use Rattle.std.proofs.Common.{◌≡◌, ℕ, ◌+◌, Bool, true, false, ◌||◌, List, [], ◌∷◌, ◌++◌, Option, Some, None, slice_get, refl, sym, ap, subst, arith}
+use Rattle.std.proofs.Common.{◌≡◌, ℕ, ◌+◌, Bool, true, false, ◌||◌, List, [], ◌∷◌, ◌++◌, Option, Some, None, slice_get, refl, sym, ap, subst, ◌∙◌, arith}
 use Rattle.ws_value.specs.declared.ids.PipeId.{PipeId}
 use Rattle.ws_value.specs.declared.ids.PromiseId.{PromiseId}
 use Rattle.ws_value.specs.declared.ids.StreamId.{StreamId}
@@ -8,7 +8,7 @@ use Rattle.ws_steps.specs.declared.calls.Call.TheVariants.{ReadInto, Finish}
 use Rattle.ws_steps.specs.declared.calls.Reply.{Reply}
 use Rattle.ws_steps.specs.declared.calls.Reply.TheVariants.{Promise}
 use Rattle.ws_steps.specs.declared.effects.Effect.{Effect}
-use Rattle.ws_steps.specs.declared.effects.Effect.TheVariants.{Readable as OnReadable, Byte, Writable as OnWritable, Pipe as OnPipe, CancelAlgorithm}
+use Rattle.ws_steps.specs.declared.effects.Effect.TheVariants.{Readable as OnReadable, Byte, Writable as OnWritable, Pipe as OnPipe, Port as OnPort, CancelAlgorithm}
 use Rattle.ws_steps.specs.declared.pipes.PipeOperation.{PipeOperation}
 use Rattle.ws_steps.specs.declared.pipes.Prevent.{Prevent}
 use Rattle.ws_steps.specs.declared.promises.Job.{Job}
@@ -17,11 +17,18 @@ use Rattle.ws_steps.specs.Jobs.{begin_job, job_begun}
 use Rattle.ws_steps.specs.Pipes as pipe
 use Rattle.ws_steps.specs.Promises.{next_job, after_next_job, watch}
 use Rattle.ws_steps.specs.Run.{Entry, Called, Worked, Heard, step, run, older, after_event}
-use Rattle.ws_steps.specs.Slots.{Slots, Done, empty, writable_at, as_pipe, with_promises, ends_at}
+use Rattle.ws_steps.specs.Slots.{Slots, Done, empty, writable_at, as_pipe, with_promises, ends_at, clones_at}
 use Rattle.ws_steps.specs.Turns.{row, performed}
 use Rattle.ws_steps.specs.Writable.{is_closed, is_closing}
 use Rattle.ws_laws.proofs.Halves as halves
-use Rattle.ws_laws.proofs.Ended.{Ended, ended-stays}
+use Rattle.ws_value.specs.declared.value.Plain.{Plain}
+use Rattle.ws_steps.specs.Cross as cross
+use Rattle.ws_steps.specs.Cross.{data_clone}
+use Rattle.ws_steps.specs.declared.port.PortOperation.{PortOperation}
+use Rattle.ws_steps.specs.declared.port.PortOperation.TheVariants as names
+use Rattle.ws_laws.proofs.Ended.{Ended, ended-stays, PortShape, port_shape, row-port_shapes}
+use Rattle.ws_laws.proofs.Shapes.{map-there}
+use Rattle.ws_reason_laws.proofs.Ports.{Clones}
 use Rattle.ws_laws.proofs.Walker.{performed-goes, untold}
 use Rattle.ws_lock_laws.specs.LockLaws.{all_spare}
 use Rattle.ws_lock_laws.proofs.Owning.{each_pipe_owns_its_ends}
@@ -39,7 +46,7 @@ use Rattle.ws_reason_laws.proofs.Newly.{each-opens}
 use Rattle.ws_reason_laws.proofs.Opening.{Opens, NewOpens, row-opens, call-opens, job-opens}
 use Rattle.ws_reason_laws.proofs.Pipes.{Finds}
 use Rattle.ws_reason_laws.proofs.Rows.{Fits}
-use Rattle.ws_reason_laws.proofs.Teed.{unteed, Fair, fair-begun}
+use Rattle.ws_reason_laws.proofs.Teed.{unteed, Paired, Ported, Fair, fair-before, fair-begun}
 use Rattle.ws_reason_laws.proofs.Weights.{bad_of, minds}
 
 -- what holds at each moment of a run, where reasons are weighed, `me` is the pipe that is looked at, and `own` its promise once it is made
@@ -58,6 +65,21 @@ flows_goes x f = grind (arith, f)
 neither : (a b : Bool) → a ≡ false → b ≡ false → (a || b) ≡ false
 neither a b e f = grind (arith, e, f)
 
+-- what an operation of a port finds
+abbrev pub Clonable : (Plain → ℕ) → Slots → Effect → Type 0
+Clonable bad s (OnPort c operation) = (x : cross.Slots) → slice_get s.ports c.0 ≡ Some x → Clones bad (clones_at x s) operation
+Clonable bad s _ = Unit {0}
+
+-- where a DataCloneError isn't bad
+clones-good : (bad : Plain → ℕ) (clones : Bool) (operation : PortOperation) → bad data_clone ≡ 0 → Clones bad clones operation
+clones-good bad clones (names.Leave r u) g = λ n. g
+clones-good bad clones (names.WriteGoesOn d) g = λ n. g
+clones-good bad clones _ g = tt
+
+pub ported-clonable : (bad : Plain → ℕ) (s : Slots) (e : Effect) → Ported bad s → Clonable bad s e
+ported-clonable bad s (OnPort c operation) h = λ x there. clones-good bad (clones_at x s) operation (h c (port_shape x) (map-there port_shape s.ports c.0 x there))
+ported-clonable bad s _ h = tt
+
 module _ (bad : Badness) (me : PipeId) (own : Option ℕ) where
   abbrev W : Slots → List Effect → Type 0
   W s es = Whole bad me own s es
@@ -70,27 +92,32 @@ module _ (bad : Badness) (me : PipeId) (own : Option ℕ) where
       let o = (k x there wants (flows_goes x flows)).0 in
       neither (is_closing (writable_at x.dest s)) (is_closed (writable_at x.dest s).state) o.closing o.closed
 
-  fits : (s : Slots) (e : Effect) (es : List Effect) → W s (e ∷ es) → Fits bad.of bad.half me e s
-  fits s (OnWritable i operation) es w = λ there. moment-fits i operation s es w.moment there
-  fits s (OnPipe p operation) es w = λ x there. finds p operation s es (w.opens p) x there
-  fits s (OnReadable i operation) es w = (w.erring.0, unteed i operation s es w.moment.locked)
-  fits s (Byte i operation) es w = w.erring.0
-  fits s (CancelAlgorithm i r p) es w = halved-owner bad.half s w.halved i
-  fits s e es w = tt
+  fits : (s : Slots) (e : Effect) (es : List Effect) → Clonable bad.of s e → W s (e ∷ es) → Fits bad.of bad.half me e s
+  fits s (OnPort c operation) es n w = n
+  fits s (OnWritable i operation) es n w = λ there. moment-fits i operation s es w.moment there
+  fits s (OnPipe p operation) es n w = λ x there. finds p operation s es (w.opens p) x there
+  fits s (OnReadable i operation) es n w = (w.erring.0, unteed i operation s es w.moment.locked)
+  fits s (Byte i operation) es n w = w.erring.0
+  fits s (CancelAlgorithm i r p) es n w = halved-owner bad.half s w.halved i
+  fits s e es n w = tt
 
-  row-whole : (s : Slots) (e : Effect) (es : List Effect) → W s (e ∷ es) → W (row e s).slots ((row e s).caused ++ es)
-  row-whole s e es w = record {
+  pub row-whole : (s : Slots) (e : Effect) (es : List Effect) → Clonable bad.of s e → W s (e ∷ es) → W (row e s).slots ((row e s).caused ++ es)
+  row-whole s e es n w = record {
     moment = moment-row s e es w.moment;
     halved = halved-row bad.half e s w.halved;
     opens = λ p. row-opens (Mind p) p s es e w.moment (w.opens p);
-    known = row-known bad me own s e es (fits s e es w) w.known;
+    known = row-known bad me own s e es (fits s e es n w) w.known;
     halves = halves.halved-stays.row s e es w.halves;
     ended = ended-stays.row s e es w.ended;
     erring = erring-row bad.of s e es w.halves w.ended w.erring;
   }
 
-  performed-whole : (d : Done) → W d.slots d.caused → W (performed d) []
-  performed-whole d w = performed-goes {H = Unit {0}} tt (λ f g. tt) untold (λ e s. tt) (λ h s es. W s es) (λ h s e es k. row-whole s e es k) tt d w
+  pub ported-row : (s : Slots) (e : Effect) → Ported bad.of s → Ported bad.of (row e s).slots
+  ported-row s e h c x there = h c x (ap (λ (zs : List PortShape). slice_get zs c.0) (sym (row-port_shapes e s)) ∙ there)
+
+  pub performed-whole : (d : Done) → Ported bad.of d.slots → W d.slots d.caused → W (performed d) []
+  performed-whole d h w =
+      (performed-goes {H = Unit {0}} tt (λ f g. tt) untold (λ e s. tt) (λ u s es. Ported bad.of s × W s es) (λ u s e es k. (ported-row s e k.0, row-whole s e es (ported-clonable bad.of s e k.0) k.1)) tt d (h, w)).1
 
   -- between effects
 
@@ -105,13 +132,12 @@ module _ (bad : Badness) (me : PipeId) (own : Option ℕ) where
   named-whole _ s w = w
 
   -- the rest of a call once it has begun
-  pub begun-whole : (c : Call) (s : Slots) → W (begin c s).done.slots (begin c s).done.caused → W (step s (Called c)) []
-  begun-whole c s w =
-      let d : Done = (begin c s).done in older-whole _ (named-whole (begin c s).reply (performed d) (performed-whole d w))
+  pub begun-whole : (c : Call) (s : Slots) → Ported bad.of (begin c s).done.slots → W (begin c s).done.slots (begin c s).done.caused → W (step s (Called c)) []
+  begun-whole c s h w =
+      let d : Done = (begin c s).done in older-whole _ (named-whole (begin c s).reply (performed d) (performed-whole d h w))
 
-  worked-whole : (s : Slots) → W s [] → W (step s Worked) []
-  unfolding begin_job
-  worked-whole s w = older-whole _ (performed-whole (begin_job s) (by (next_job s.promises) refl))
+  pub worked-starts : (s : Slots) → W s [] → W (job_begun s (next_job s.promises)).slots (job_begun s (next_job s.promises)).caused
+  worked-starts s w = by (next_job s.promises) refl
     where
       by : (job : Option Job) → next_job s.promises ≡ job → W (job_begun s job).slots (job_begun s job).caused
       by None e = w
@@ -124,6 +150,14 @@ module _ (bad : Badness) (me : PipeId) (own : Option ℕ) where
         ended = w.ended;
         erring = erring-job bad.of job (with_promises (after_next_job s.promises) s);
       }
+
+  worked-whole : (s : Slots) → Ported bad.of s → W s [] → W (step s Worked) []
+  unfolding begin_job
+  worked-whole s h w = older-whole _ (performed-whole (begin_job s) (by (next_job s.promises)) (worked-starts s w))
+    where
+      by : (job : Option Job) → Ported bad.of (job_begun s job).slots
+      by None = h
+      by (Some job) = h
 
   heard-whole : (s : Slots) → W s [] → W (after_event s) []
   heard-whole s w = record { moment = moment-heard s w.moment; halved = w.halved; opens = w.opens; known = event-known bad me own s w.known; halves = w.halves; ended = w.ended; erring = tt }
@@ -169,11 +203,11 @@ erred-part bad (ReadInto l room element least) s h = h
 erred-part bad c s h = refl
 
 module _ (bad : Badness) (me : PipeId) (own : Option ℕ) where
-  pub call-whole : (pre : List Entry) (c : Call) → bad_call bad c (run pre empty) ≡ 0 → Halved bad.half (begin c (run pre empty)).done.slots → NewOpens (Mind bad me own me) me c (run pre empty) → (new : Option ℕ)
-      → Known bad me new (begin c (run pre empty)).done.slots (begin c (run pre empty)).done.caused → Whole bad me own (run pre empty) [] → Whole bad me new (step (run pre empty) (Called c)) []
-  call-whole pre c h there opens new known w =
+  pub call-starts : (pre : List Entry) (c : Call) → bad_call bad c (run pre empty) ≡ 0 → Halved bad.half (begin c (run pre empty)).done.slots → NewOpens (Mind bad me own me) me c (run pre empty) → (new : Option ℕ)
+      → Known bad me new (begin c (run pre empty)).done.slots (begin c (run pre empty)).done.caused → Whole bad me own (run pre empty) [] → Whole bad me new (begin c (run pre empty)).done.slots (begin c (run pre empty)).done.caused
+  call-starts pre c h there opens new known w =
       let s : Slots = run pre empty in
-      begun-whole bad me new c s (record {
+      record {
         moment = moment-call s c w.moment;
         halved = there;
         opens = λ p. call-opens (Mind bad me own p) p c s (w.opens p) (λ x e g. spared pre p c x e g) (each-opens bad me s w.halved c there (omega (arith, h)) opens p);
@@ -181,18 +215,26 @@ module _ (bad : Badness) (me : PipeId) (own : Option ℕ) where
         halves = halves.halved-stays.call s c w.halves;
         ended = ended-stays.call s c w.ended;
         erring = erring-call bad.of s c (erred-part bad c s (omega (arith, h)));
-      })
+      }
 
-  called-known : (c : Call) (s : Slots) → bad_call bad c s ≡ 0 → Fair bad.of (begin c s).done.slots → Whole bad me own s [] → Known bad me own (begin c s).done.slots (begin c s).done.caused
+  pub call-whole : (pre : List Entry) (c : Call) → bad_call bad c (run pre empty) ≡ 0 → Ported bad.of (begin c (run pre empty)).done.slots → Halved bad.half (begin c (run pre empty)).done.slots → NewOpens (Mind bad me own me) me c (run pre empty) → (new : Option ℕ)
+      → Known bad me new (begin c (run pre empty)).done.slots (begin c (run pre empty)).done.caused → Whole bad me own (run pre empty) [] → Whole bad me new (step (run pre empty) (Called c)) []
+  call-whole pre c h ported there opens new known w = begun-whole bad me new c (run pre empty) ported (call-starts pre c h there opens new known w)
+
+  called-known : (c : Call) (s : Slots) → bad_call bad c s ≡ 0 → Paired bad.of (begin c s).done.slots → Whole bad me own s [] → Known bad me own (begin c s).done.slots (begin c s).done.caused
   called-known c s h p w = call-known bad me own s w.known c (begun-good bad c s w.halved h) (begun-kinds bad c s h (kinds-known bad me own s w.known)) p
 
   -- what is known of the pipe as a run goes on
   module _ (Phase : Slots → List Entry → Type 0) (next : (s : Slots) (x : Entry) (xs : List Entry) → Phase s (x ∷ xs) → Phase (step s x) xs)
       (new : (s : Slots) (c : Call) (xs : List Entry) → Phase s (Called c ∷ xs) → NewOpens (Mind bad me own me) me c s) where
-    step-whole : (pre : List Entry) (x : Entry) (xs : List Entry) → Phase (run pre empty) (x ∷ xs) → bad_entry bad x (run pre empty) ≡ 0 → Halved bad.half (run (x ∷ xs) (run pre empty)) → Fair bad.of (run (x ∷ xs) (run pre empty)) → Whole bad me own (run pre empty) [] → Whole bad me own (step (run pre empty) x) []
+    pub called-starts : (pre : List Entry) (c : Call) (xs : List Entry) → Phase (run pre empty) (Called c ∷ xs) → bad_entry bad (Called c) (run pre empty) ≡ 0 → Halved bad.half (run (Called c ∷ xs) (run pre empty)) → Fair bad.of (run (Called c ∷ xs) (run pre empty)) → Whole bad me own (run pre empty) [] → Whole bad me own (begin c (run pre empty)).done.slots (begin c (run pre empty)).done.caused
+    called-starts pre c xs f h there p w =
+        call-starts pre c h (halved-begun bad.half c xs (run pre empty) there) (new (run pre empty) c xs f) own (called-known c (run pre empty) h (fair-begun bad.of c xs (run pre empty) p).0 w) w
+
+    pub step-whole : (pre : List Entry) (x : Entry) (xs : List Entry) → Phase (run pre empty) (x ∷ xs) → bad_entry bad x (run pre empty) ≡ 0 → Halved bad.half (run (x ∷ xs) (run pre empty)) → Fair bad.of (run (x ∷ xs) (run pre empty)) → Whole bad me own (run pre empty) [] → Whole bad me own (step (run pre empty) x) []
     step-whole pre (Called c) xs f h there p w =
-        call-whole pre c h (halved-begun bad.half c xs (run pre empty) there) (new (run pre empty) c xs f) own (called-known c (run pre empty) h (fair-begun bad.of c xs (run pre empty) p) w) w
-    step-whole pre Worked xs f h there p w = worked-whole bad me own (run pre empty) w
+        call-whole pre c h (fair-begun bad.of c xs (run pre empty) p).1 (halved-begun bad.half c xs (run pre empty) there) (new (run pre empty) c xs f) own (called-known c (run pre empty) h (fair-begun bad.of c xs (run pre empty) p).0 w) w
+    step-whole pre Worked xs f h there p w = worked-whole bad me own (run pre empty) (fair-before bad.of (Worked ∷ xs) (run pre empty) p).1 w
     step-whole pre Heard xs f h there p w = heard-whole bad me own (run pre empty) w
 
     pub run-whole : (pre xs : List Entry) → Phase (run pre empty) xs → bad_run bad xs (run pre empty) ≡ 0 → Halved bad.half (run xs (run pre empty)) → Fair bad.of (run xs (run pre empty)) → Whole bad me own (run pre empty) []

@@ -19,10 +19,10 @@ use Rattle.ws_reason_laws.proofs.Rows.{stream-there, source-good, dest-good}
 use Rattle.ws_reason_laws.proofs.Runs.{Whole, run-whole}
 use Rattle.ws_reason_laws.proofs.Weights.{Class, in_streams, has_error, is_errored as is_source_errored, minds}
 
-errored-bad : (state : ReadableState) (n : ℕ) → state ≡ Errored → (if is_source_errored state then n else 0) ≡ 0 → n ≡ 0
+pub errored-bad : (state : ReadableState) (n : ℕ) → state ≡ Errored → (if is_source_errored state then n else 0) ≡ 0 → n ≡ 0
 errored-bad state n e h = grind (arith, e, h)
 
-erroring-bad : (state : WritableState) (n m : ℕ) → (is_erroring state || is_errored state) ≡ true → (if has_error state then n else 0) + m ≡ 0 → n ≡ 0
+pub erroring-bad : (state : WritableState) (n m : ℕ) → (is_erroring state || is_errored state) ≡ true → (if has_error state then n else 0) + m ≡ 0 → n ≡ 0
 erroring-bad state n m e h = grind (arith, e, h)
 
 module _ (entries : List Entry) (i : StreamId) where

@@ -104,10 +104,10 @@ paired-begun bad c xs s h t x e =
 abbrev pub Ported : (Plain → ℕ) → Slots → Type 0
 Ported bad s = (c : PortId) (x : PortShape) → slice_get (port_shapes s) c.0 ≡ Some x → bad data_clone ≡ 0
 
-ported-before : (bad : Plain → ℕ) (xs : List Entry) (s : Slots) → Ported bad (run xs s) → Ported bad s
+pub ported-before : (bad : Plain → ℕ) (xs : List Entry) (s : Slots) → Ported bad (run xs s) → Ported bad s
 ported-before bad xs s h c x e = h c x (run-among_ports xs s c x e)
 
-ported-begun : (bad : Plain → ℕ) (c : Call) (xs : List Entry) (s : Slots) → Ported bad (run (Called c ∷ xs) s) → Ported bad (begin c s).done.slots
+pub ported-begun : (bad : Plain → ℕ) (c : Call) (xs : List Entry) (s : Slots) → Ported bad (run (Called c ∷ xs) s) → Ported bad (begin c s).done.slots
 ported-begun bad c xs s h p x e = ported-before bad xs (step s (Called c)) h p x (ap (λ (zs : List PortShape). slice_get zs p.0) (called-port_shapes c s) ∙ e)
 
 -- both

@@ -378,9 +378,9 @@ abbrev pub in_tees : Class → ℕ → List tee.Slots → ℕ
 in_tees k n [] = 0
 in_tees k n (x ∷ xs) = in_tee k n x + in_tees k (suc n) xs
 
--- a port: a write of a chunk that can't be cloned fails with a DataCloneError, and its backpressure promise hands on
+-- a port: its backpressure promise hands on
 abbrev pub in_port : Class → cross.Slots → ℕ
-in_port k x = k.bad cross.data_clone + loud_one k x.backpressure
+in_port k x = loud_one k x.backpressure
 
 abbrev pub in_ports : Class → List cross.Slots → ℕ
 in_ports k [] = 0

@@ -1,0 +1,4 @@
+pub mod Condition
+pub mod Joined
+pub mod Telling
+mod Worked

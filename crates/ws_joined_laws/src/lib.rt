@@ -1,0 +1,52 @@
+//! Laws of nodes that are joined by rows of messages: when each keeps its flow, what it has told with an end, and how
+//! a run over any number of them ends, in any order of their turns.
+#![tactic(auto)]
+
+ghost use Rattle.ws_joined_laws.specs.Condition.{EachConditionIsMet};
+ghost use Rattle.ws_joined_laws.specs.Joined.{EachJoinedRunEnds, EachNodeTells};
+
+/// A node that sent a close was told the end of what came in, each of its stages ended fine, and what it sent is all
+/// that they make of it.
+///
+/// The same holds where no close was sent but one waits behind the stages: then what was sent, with what waits, is
+/// all. What went out of the node that writes the output counts as closed where the output was finished. This is said
+/// of any stages whose node keeps its flow: what came in flows through them to what went out, what waits behind them,
+/// and what lies between. It isn't said that a node sends a close once its input has closed.
+///
+/// Of: nodes, stages.
+pub fn each_node_tells()
+    ensures { EachNodeTells }
+{}
+
+/// In a chain of nodes of which each keeps its flow where the chunks that it received are bytes, fewer than 2^25 of
+/// them, each keeps its flow.
+///
+/// The stages of all nodes together are those of a plan that isn't refused: each in its range, at most 16 of them, and
+/// at most 4 `hex`. The first node reads the input in pieces of at most 4,096 bytes; it keeps its flow without that
+/// condition and sends nothing but bytes. Each other node, where the condition holds of what it received, sends
+/// nothing but bytes too. What is sent by a row is what is received from it and what is left there. That a node keeps
+/// its flow under the condition is the premise, which each node owes by itself.
+///
+/// Of: nodes, plans.
+pub fn each_condition_is_met()
+    ensures { EachConditionIsMet }
+{}
+
+/// What the output of a run over any number of nodes got is a first part of what all stages make of the bytes that
+/// were taken, and each reason with which the pipe into the sink was rejected has its cause in one of the nodes.
+///
+/// Where the output was finished it got all that the stages make, the input was read to its end, and each stage ended
+/// fine. A reason is one of a few faults. Where it is that of a stage, the stage of its number, from 1, ends with its
+/// code and at its place over the bytes that were taken. Else one of the nodes found that a read of the input failed,
+/// that more was taken than the run may take, that the output failed, that it has the bytes after which the run is
+/// aborted, or that memory was wanting. So it is never a TypeError, a RangeError or a DataCloneError.
+///
+/// The nodes keep their flow, from the input to the output (`each_condition_is_met`); no stage sees chunks that depend
+/// on how the input was cut; each node counts the stages before it rightly; and each reason that goes out of a node,
+/// by an error or by the pipe into the sink, came into it by an error or has its cause there. In what order the nodes
+/// take their turns plays no part. It isn't said that a run ends, nor which of several reasons it ends with.
+///
+/// Of: nodes, stages, reasons.
+pub fn each_joined_run_ends()
+    ensures { EachJoinedRunEnds }
+{}

@@ -1,0 +1,5 @@
+pub mod Posted
+pub mod Stopped
+pub mod Late
+pub mod Older
+mod Worked
