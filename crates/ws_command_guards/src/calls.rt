@@ -1,0 +1,35 @@
+//! Calls and jobs of a realm, over its tables.
+ghost use Rattle.std.specs.Prelude.{◌≡◌, ◌<◌, ◌≤◌, ◌+◌, ◌^◌, not, if◌then◌else◌};
+ghost use Rattle.ws_steps.specs.Run as run;
+ghost use Rattle.ws_tables.specs.Room.{IsPrepared, IsResting};
+ghost use Rattle.ws_tables.specs.View.{slots_of};
+
+use ws_steps::{Call, Reply};
+use ws_tables::Tables;
+
+/// Performs a call.
+pub fn perform_call(tables: &mut Tables, call: Call) -> Reply
+    requires prepared { IsPrepared tables.old }
+    requires resting { IsResting tables.old }
+    requires young { tables.old.age < 2 ^ 62 }
+    ensures reply { result ≡ run.reply_to call (slots_of tables.old) }
+    ensures slots { slots_of tables.new ≡ run.after_call call (slots_of tables.old) }
+    ensures resting { IsResting tables.new }
+    ensures age { tables.new.age ≡ tables.old.age + 1 }
+{
+    ws_calls::perform_call(tables, call)
+}
+
+/// Performs the first job.
+pub fn perform_job(tables: &mut Tables) -> bool
+    requires prepared { IsPrepared tables.old }
+    requires resting { IsResting tables.old }
+    requires young { tables.old.age < 2 ^ 62 }
+    ensures worked { result ≡ not (run.is_idle (slots_of tables.old)) }
+    ensures slots { slots_of tables.new
+        ≡ (if run.is_idle (slots_of tables.old) then slots_of tables.old else run.after_job (slots_of tables.old)) }
+    ensures resting { IsResting tables.new }
+    ensures age { tables.new.age ≤ tables.old.age + 1 }
+{
+    ws_calls::perform_job(tables)
+}

@@ -1,0 +1,64 @@
+//! Runs of a plan.
+ghost use Rattle.std.specs.Prelude.{IfOk};
+ghost use Rattle.ws_io.specs.Moment.{moment};
+ghost use Rattle.ws_runner.specs.Ends.{Ends, EndsAs};
+ghost use Rattle.ws_runner.specs.Opening.{IsAccepted};
+ghost use Rattle.ws_runner.specs.Past.{HasCounts, IsNew};
+ghost use Rattle.ws_runner.specs.Turns.{TurnIs};
+ghost use Rattle.ws_runner.specs.Went.{Went};
+
+use std::alloc::Global;
+use std::sync::Wait;
+use ws_io::{Sink, Source, Status};
+use ws_realm::NoMemory;
+use ws_runner::{Turn, Whole};
+use ws_stages::Plan;
+
+/// Runs a plan.
+pub fn run_nodes<R: Wait, S: Source, K: Sink>(
+    rt: &R,
+    alloc: Global,
+    plan: &Plan,
+    input: &mut S,
+    output: &mut K,
+) -> Status
+    requires { IsAccepted plan.now }
+    ensures { Ends result plan.now
+        (moment (S.faults input.old) (S.feed input.old) (K.faults output.old) (K.finished output.old))
+        (moment (S.faults input.new) (S.feed input.new) (K.faults output.new) (K.finished output.new))
+        (K.got output.old) (K.got output.new) }
+{
+    ws_runner::run_nodes(rt, alloc, plan, input, output)
+}
+
+/// A node of a run of this plan.
+pub fn make(alloc: Global, plan: &Plan) -> Result<Whole, NoMemory>
+    requires { IsAccepted plan.now }
+    ensures { IfOk result (IsNew plan.now) }
+{
+    Whole::make(alloc, plan)
+}
+
+/// One turn of a node.
+pub fn turn<S: Source, K: Sink>(
+    whole: &mut Whole,
+    alloc: Global,
+    input: &mut S,
+    output: &mut K,
+) -> Turn
+    ensures went { Went whole.old whole.new
+        (moment (S.faults input.old) (S.feed input.old) (K.faults output.old) (K.finished output.old))
+        (moment (S.faults input.new) (S.feed input.new) (K.faults output.new) (K.finished output.new))
+        (K.got output.old) (K.got output.new) }
+    ensures turn { TurnIs result whole.old whole.new }
+    ensures counts { HasCounts whole.new }
+{
+    whole.turn(alloc, input, output)
+}
+
+/// How the run of a node ends.
+pub fn status(whole: &Whole) -> Option<Status>
+    ensures { EndsAs result whole.now }
+{
+    whole.status()
+}

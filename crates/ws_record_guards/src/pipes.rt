@@ -1,0 +1,54 @@
+//! Pipes.
+ghost use Rattle.std.specs.Prelude.{◌≡◌, ◌≤◌, false, length, true};
+ghost use Rattle.ws_pipe.specs.Seen.{HasRoomFor, acts_of, looks};
+ghost use Rattle.ws_promise.specs.Seen.{HasEffectRoom};
+ghost use Rattle.ws_steps.specs.Operations.{pipe_operation};
+ghost use Rattle.ws_steps.specs.declared.pipes.Ends.{Ends};
+
+use ws_pipe::{Pipe, PipeEnds};
+use ws_promise::{Agenda, Promises};
+use ws_steps::PipeOperation;
+use ws_value::PipeId;
+
+/// Performs an operation in which the pipe looks at its two ends.
+pub fn perform_with_ends(
+    pipe: &mut Pipe,
+    me: PipeId,
+    ends: &PipeEnds,
+    p: &mut Promises,
+    fx: &mut Agenda,
+    operation: &mut PipeOperation,
+)
+    requires looking { looks operation.old ≡ true }
+    requires room { HasRoomFor operation.old p.old }
+    requires counted { pipe.old.unsettled ≤ length p.old.table.entries }
+    requires effect_room { HasEffectRoom 5 fx.old }
+    ensures row { acts_of pipe.new p.new fx.new
+        ≡ pipe_operation me ends.now operation.old (acts_of pipe.old p.old fx.old) }
+    ensures counted { pipe.new.unsettled ≤ length p.new.table.entries }
+    ensures promise_room { p.new.room ≡ p.old.room }
+    ensures effect_room { fx.new.capacity ≡ fx.old.capacity }
+{
+    pipe.perform_with_ends(me, ends, p, fx, operation);
+}
+
+/// Performs an operation in which the pipe doesn't look at its two ends.
+pub fn perform_without_ends(
+    pipe: &mut Pipe,
+    me: PipeId,
+    p: &mut Promises,
+    fx: &mut Agenda,
+    operation: &mut PipeOperation,
+)
+    requires unlooking { looks operation.old ≡ false }
+    requires room { HasRoomFor operation.old p.old }
+    requires counted { pipe.old.unsettled ≤ length p.old.table.entries }
+    requires effect_room { HasEffectRoom 5 fx.old }
+    ensures row { (ends : Ends) → acts_of pipe.new p.new fx.new
+        ≡ pipe_operation me ends operation.old (acts_of pipe.old p.old fx.old) }
+    ensures counted { pipe.new.unsettled ≤ length p.new.table.entries }
+    ensures promise_room { p.new.room ≡ p.old.room }
+    ensures effect_room { fx.new.capacity ≡ fx.old.capacity }
+{
+    pipe.perform_without_ends(me, p, fx, operation);
+}

@@ -1,0 +1,41 @@
+//! Promises.
+ghost use Rattle.std.specs.Prelude.{◌≡◌};
+ghost use Rattle.std.specs.Option.{is_some};
+ghost use Rattle.ws_promise.specs.Seen.{HasJobRoom};
+ghost use Rattle.ws_steps.specs.Promises as table;
+ghost use Rattle.ws_steps.specs.declared.promises.Reaction.TheVariants as reaction;
+
+use ws_promise::Promises;
+use ws_steps::Step;
+use ws_value::{Plain, PromiseId};
+
+/// Has `step` performed once `p` settles.
+pub fn react(promises: &mut Promises, p: PromiseId, step: Step, derived: Option<PromiseId>)
+    requires { HasJobRoom 1 promises.old }
+    ensures { promises.new
+        ≡ record promises.old { table = table.react p (reaction.Perform step derived) promises.old.table } }
+{
+    promises.react(p, step, derived);
+}
+
+/// Fulfils `p` with a value or rejects it with a reason, where it is pending and follows no other; else that went
+/// astray.
+pub fn settle(promises: &mut Promises, p: PromiseId, outcome: Result<Plain, Plain>)
+    ensures { promises.new ≡ record promises.old { table = table.settle p outcome promises.old.table } }
+{
+    promises.settle(p, outcome);
+}
+
+/// How many promises became watched before `p`, where it is watched.
+pub fn rank(promises: &Promises, p: PromiseId) -> Option<u64>
+    ensures { result ≡ table.rank_at promises.now.table p }
+{
+    promises.rank(p)
+}
+
+/// Whether there is such a promise that wasn't released.
+pub fn is_live(promises: &Promises, p: PromiseId) -> bool
+    ensures { result ≡ is_some (table.outcome_at promises.now.table p) }
+{
+    promises.is_live(p)
+}
