@@ -1,5 +1,0 @@
-//! Tests of promises and of the agenda below any realm.
-#![tactic(auto)]
-
-#[cfg(test)]
-mod table;

@@ -1,0 +1,16 @@
+//! What no clause, example or case of cases/ says: calls of the program over objects in memory and adapters that
+//! fail or move little at a time.
+#![tactic(auto)]
+
+#[cfg(test)]
+mod adapters;
+#[cfg(test)]
+mod calls;
+#[cfg(test)]
+mod held;
+#[cfg(test)]
+mod memory;
+#[cfg(test)]
+mod paces;
+#[cfg(test)]
+mod whole;
