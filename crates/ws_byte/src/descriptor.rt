@@ -10,9 +10,9 @@ use ws_queue::{ByteQueue, write};
 use ws_steps::RoomKind;
 use ws_value::{Chunk, Room};
 
-/// A pull-into descriptor: a room, of whose bytes the first `filled` are filled; how many are to be filled at least; the size of an element.
-/// It is seen as the definitions have it.
-#[derive(Debug, Drop)]
+/// A pull-into descriptor: a room, of whose bytes the first `filled` are filled; how many are to be filled at least;
+/// the size of an element. It is seen as the definitions have it.
+#[derive(Drop)]
 pub struct Descriptor {
     room: Room,
     filled: usize,

@@ -48,7 +48,8 @@ impl ByteStream {
         }
     }
 
-    /// Where there are descriptors, the BYOB request is invalidated, and the first one goes to the queue where its reader was released.
+    /// Where there are descriptors, the BYOB request is invalidated, and the first one goes to the queue where its
+    /// reader was released.
     fn renounce(&mut self)
         requires { HasQueueRoom 0 self.old }
         ensures slots { self.new ≡ record self.old { slots = renounced self.old.slots self.old.slots.descriptors } }
@@ -86,7 +87,8 @@ impl ByteStream {
         }
     }
 
-    /// Serves the first request from the queue, where one waits and bytes are queued. A close wasn't requested, so that only a pull may come of it.
+    /// Serves the first request from the queue, where one waits and bytes are queued. A close wasn't requested, so
+    /// that only a pull may come of it.
     fn serve_first(&mut self, me: StreamId, fx: &mut Agenda) -> bool
         requires open { self.old.slots.stream.close_requested ≡ false }
         requires effects { HasEffectRoom (2 * length self.old.slots.stream.requests) fx.old }
@@ -133,7 +135,8 @@ impl ByteStream {
         }
     }
 
-    /// The first request that waits gets the bytes, and the first descriptor is dropped; where none waits, the bytes go to the queue.
+    /// The first request that waits gets the bytes, and the first descriptor is dropped; where none waits, the bytes
+    /// go to the queue.
     fn accept_for(&mut self, me: StreamId, fx: &mut Agenda, bytes: Chunk)
         requires queue { HasQueueRoom 1 self.old }
         requires effects { HasEffectRoom 1 fx.old }

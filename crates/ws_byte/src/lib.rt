@@ -1,4 +1,5 @@
-//! Readable streams with a byte controller: the record of one stream, with a method for each of its abstract operations.
+//! Readable streams with a byte controller: the record of one stream, with a method for each of its abstract
+//! operations.
 #![tactic(auto)]
 
 mod cancel;

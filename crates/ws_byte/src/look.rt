@@ -30,8 +30,8 @@ impl ByteStream {
         self.stream.waiting_requests()
     }
 
-    /// Whether there are places for `n` more entries in the queue, besides those of the descriptors, for `n` more requests and for `n` more
-    /// descriptors, and a room where the controller allocates rooms.
+    /// Whether there are places for `n` more entries in the queue, besides those of the descriptors, for `n` more
+    /// requests and for `n` more descriptors, and a room where the controller allocates rooms.
     pub fn has_room(&self, n: usize) -> bool
         requires { 0 < n }
         ensures { IsTrue result ↔ HasRoom n self.now }

@@ -8,7 +8,8 @@ use crate::descriptor::Descriptor;
 use std::collections::VecDeque;
 use ws_queue::ByteQueue;
 
-/// Fills the first descriptor, where there is one and bytes are queued. Where it is ready, it goes behind the others that are.
+/// Fills the first descriptor, where there is one and bytes are queued. Where it is ready, it goes behind the others
+/// that are.
 fn process_first(
     descriptors: &mut VecDeque<Descriptor>,
     queue: &mut ByteQueue,
@@ -41,7 +42,8 @@ fn process_first(
     is_ready
 }
 
-/// ReadableByteStreamControllerProcessPullIntoDescriptorsUsingQueue: those that are ready go behind the others that are.
+/// ReadableByteStreamControllerProcessPullIntoDescriptorsUsingQueue: those that are ready go behind the others that
+/// are.
 pub fn process(
     descriptors: &mut VecDeque<Descriptor>,
     queue: &mut ByteQueue,

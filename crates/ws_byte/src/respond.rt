@@ -48,8 +48,8 @@ impl ByteStream {
         }
     }
 
-    /// The first descriptor, which was taken out, has all that it wants with these bytes. Those that are a part of an element go to the queue,
-    /// from which the others are filled. It is committed before those that are ready then.
+    /// The first descriptor, which was taken out, has all that it wants with these bytes. Those that are a part of an
+    /// element go to the queue, from which the others are filled. It is committed before those that are ready then.
     #[tactic(auto, unfolding(ws_steps::specs::Bytes::respond_full))]
     fn respond_full(&mut self, me: StreamId, fx: &mut Agenda, first: Descriptor, bytes: Chunk)
         requires fine { IsFine first }
@@ -76,7 +76,8 @@ impl ByteStream {
         commit_all(&mut self.stream, &mut self.queue, &mut self.ready, me, fx);
     }
 
-    /// The first descriptor, which was taken out, is for nobody: with these bytes it goes to the queue, from which the others are filled.
+    /// The first descriptor, which was taken out, is for nobody: with these bytes it goes to the queue, from which the
+    /// others are filled.
     fn respond_renounced(&mut self, me: StreamId, fx: &mut Agenda, first: Descriptor, bytes: Chunk)
         requires takes { Takes (length bytes) first }
         requires queue { HasQueueRoom 1 self.old }

@@ -13,9 +13,9 @@ use ws_readable::Readable;
 use ws_steps::{Owner, ReaderKind, SizeBy};
 use ws_value::{NoMemory, RequestId, Room};
 
-/// A readable stream with its byte controller and the reader that locks it. It is seen as its slots, with the places that there are for entries
-/// of the queue, for requests and for descriptors, and with the rooms that the controller has ready. What the two kinds of controller have in
-/// common is a stream of its own, whose queue stays empty.
+/// A readable stream with its byte controller and the reader that locks it. It is seen as its slots, with the places
+/// that there are for entries of the queue, for requests and for descriptors, and with the rooms that the controller
+/// has ready. What the two kinds of controller have in common is a stream of its own, whose queue stays empty.
 #[derive(Drop)]
 pub struct ByteStream {
     pub(crate) stream: Readable,
@@ -63,8 +63,8 @@ impl Model for ByteStream {
 }
 
 impl ByteStream {
-    /// A new stream, whose controller is set up, and allocates rooms of the length `auto` where that isn't 0. Its start algorithm is still to be
-    /// performed.
+    /// A new stream, whose controller is set up, and allocates rooms of the length `auto` where that isn't 0. Its
+    /// start algorithm is still to be performed.
     pub fn make(alloc: Global, hwm: u64, auto: u64) -> ByteStream
         ensures { result.slots ≡ rows.set_up hwm auto }
     {
@@ -135,8 +135,8 @@ impl ByteStream {
         Ok(())
     }
 
-    /// Makes places for `n` more entries in the queue, besides those of the descriptors, for `n` more requests and for `n` more descriptors, and
-    /// a room where the controller allocates rooms.
+    /// Makes places for `n` more entries in the queue, besides those of the descriptors, for `n` more requests and for
+    /// `n` more descriptors, and a room where the controller allocates rooms.
     pub fn reserve(&mut self, n: usize) -> Result<(), NoMemory>
         ensures ok { OnOk result (HasRoom n self.new) }
         ensures slots { self.new.slots ≡ self.old.slots }

@@ -129,7 +129,15 @@ fn perform_uncommon_call(tables: &mut Tables, call: Call) -> Reply
     reply
 }
 
-/// Performs the enqueuing of a chunk with all that comes of it. Whether the stream took the chunk: it doesn't where the call throws.
+/// Whether a reply says that the call was done.
+fn is_done(reply: &Reply) -> bool
+    ensures { (result ≡ true) ↔ (reply.now ≡ Done) }
+{
+    matches!(reply, Reply::Done)
+}
+
+/// Performs the enqueuing of a chunk with all that comes of it. Whether the stream took the chunk: it doesn't where
+/// the call throws.
 pub fn perform_enqueue(tables: &mut Tables, i: StreamId, chunk: Value) -> bool
     requires prepared { IsPrepared tables.old }
     requires resting { IsResting tables.old }
@@ -143,7 +151,7 @@ pub fn perform_enqueue(tables: &mut Tables, i: StreamId, chunk: Value) -> bool
     tables.perform_effects();
     name(tables, reply);
     tables.age += 1;
-    reply == Reply::Done
+    is_done(&reply)
 }
 
 /// Performs a call with all that comes of it, in the places that there are.

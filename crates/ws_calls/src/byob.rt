@@ -96,7 +96,8 @@ pub(crate) fn read_into(
     }
 }
 
-/// ReadableByteStreamControllerGetBYOBRequest: the request that there is, or where there is none, but a descriptor, a new one.
+/// ReadableByteStreamControllerGetBYOBRequest: the request that there is, or where there is none, but a descriptor, a
+/// new one.
 #[tactic(auto, unfolding(ws_steps::specs::Calls::begin))]
 pub(crate) fn request(tables: &mut Tables, i: StreamId) -> Reply
     requires ready { CanBegin tables.old }
@@ -137,7 +138,8 @@ fn respond_to(tables: &mut Tables, i: StreamId, bytes: Chunk) -> Reply
     Reply::Done
 }
 
-/// `request.respond(length)`, with the bytes that were written into its view. One that was invalidated has no view any more.
+/// `request.respond(length)`, with the bytes that were written into its view. One that was invalidated has no view any
+/// more.
 #[tactic(auto, unfolding(ws_steps::specs::Calls::begin))]
 pub(crate) fn respond(tables: &mut Tables, q: RequestId, bytes: Chunk) -> Reply
     requires ready { CanBegin tables.old }

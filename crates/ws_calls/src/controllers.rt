@@ -69,7 +69,8 @@ pub(crate) fn enqueue(tables: &mut Tables, i: StreamId, chunk: Value) -> Reply
     Reply::Done
 }
 
-/// `controller.close()` of a byte controller. Where the first descriptor has a part of an element it errors the stream, and throws.
+/// `controller.close()` of a byte controller. Where the first descriptor has a part of an element it errors the
+/// stream, and throws.
 fn finish_bytes(tables: &mut Tables, i: StreamId) -> Reply
     requires bytes { has_readable i (slots_of tables.old) ≡ false }
     requires ready { CanBegin tables.old }

@@ -1,5 +1,5 @@
-//! The jobs that each chunk meets on its way through a pipe. Each has one effect, which is performed at once: to put it
-//! on the agenda and to take it from there costs as much as most effects do.
+//! The jobs that each chunk meets on its way through a pipe. Each has one effect, which is performed at once: to put
+//! it on the agenda and to take it from there costs as much as most effects do.
 ghost use Rattle.std.specs.Prelude.{◌≡◌, [], ◌∷◌, Ok, IfSome, true, false};
 ghost use Rattle.ws_value.specs.declared.value.Plain.TheVariants.{Undefined};
 ghost use Rattle.ws_steps.specs.Jobs.{job_effects, steps};
@@ -175,8 +175,8 @@ fn perform(tables: &mut Tables, first: First)
     }
 }
 
-/// Takes the first job out of the queue and performs its one effect, where it is such a job. False says that nothing was
-/// done.
+/// Takes the first job out of the queue and performs its one effect, where it is such a job. False says that nothing
+/// was done.
 pub(crate) fn begin_first(tables: &mut Tables) -> bool
     requires prepared { IsPrepared tables.old }
     requires resting { IsResting tables.old }

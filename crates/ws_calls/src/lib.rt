@@ -1,6 +1,11 @@
-//! The calls and jobs of a realm, over its tables: what each begins with, and all that comes of it.
+//! The calls and jobs of a realm over its tables: their checks, what they make and begin with, and the performing of
+//! one whole.
 //!
-//! A call is its checks in their order, what it answers and makes, and the first effects that it causes: these stand in a file for each kind of object that is asked (`streams`, `transforms`, `tees`, `readers`, `byob`, `writers`, `locks`, `controllers`, `pipes`, `ports`). `jobs` has the first effects of a job, and `first` performs the one effect of a job that each chunk meets, as `settled` performs the call of a host that is done. `begin` performs a call or a job whole, and the enqueuing of a chunk without a call made of it, in memory that was taken before.
+//! A call is its checks in their order, what it answers and makes, and the first effects that it causes: these stand
+//! in a file for each kind of object that is asked (`streams`, `transforms`, `tees`, `readers`, `byob`, `writers`,
+//! `locks`, `controllers`, `pipes`, `ports`). `jobs` has the first effects of a job, and `first` performs the one
+//! effect of a job that each chunk meets, as `settled` performs the call of a host that is done. `begin` performs a
+//! call or a job whole, and the enqueuing of a chunk without a call made of it, in memory that was taken before.
 #![tactic(auto)]
 
 mod begin;

@@ -13,7 +13,8 @@ use ws_steps::{Effect, Lock, ReadableOperation, ReaderKind, Reply, WritableOpera
 use ws_tables::Tables;
 use ws_value::{Fault, LockId, Plain, PromiseId, StreamId};
 
-/// A promise that isn't kept becomes a new one, which is rejected with a TypeError. The answer is the promise from then on.
+/// A promise that isn't kept becomes a new one, which is rejected with a TypeError. The answer is the promise from
+/// then on.
 #[tactic(auto, using(ws_tables::proofs::Places::fresh_length))]
 fn renew(tables: &mut Tables, promise: PromiseId, kept: bool) -> PromiseId
     requires promise_room { HasPromiseRoom 1 tables.old.promises }

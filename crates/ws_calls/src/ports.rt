@@ -43,7 +43,8 @@ fn add_readable_end(tables: &mut Tables)
     tables.caused.push(Effect::StartAlgorithm(i, Step::ReadableStart(i), StartBy::Now));
 }
 
-/// SetUpCrossRealmTransformWritable: a new port, and a writable stream at this end of it, which starts. It has backpressure.
+/// SetUpCrossRealmTransformWritable: a new port, and a writable stream at this end of it, which starts. It has
+/// backpressure.
 #[tactic(auto, using(ws_tables::proofs::Places::fresh_length))]
 fn add_writable_end(tables: &mut Tables)
     requires ready { CanBegin tables.old }
@@ -116,7 +117,8 @@ fn send_writable(tables: &mut Tables, dest: StreamId) -> Reply
     Reply::Port(c)
 }
 
-/// The transfer steps of a stream: a pipe, between it and a stream at this end of a new port, whose promise nobody is told.
+/// The transfer steps of a stream: a pipe, between it and a stream at this end of a new port, whose promise nobody is
+/// told.
 #[tactic(auto, unfolding(ws_steps::specs::Calls::begin))]
 pub(crate) fn send(tables: &mut Tables, i: StreamId) -> Reply
     requires ready { CanBegin tables.old }

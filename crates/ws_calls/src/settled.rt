@@ -11,7 +11,8 @@ ghost use Rattle.ws_tables.specs.View.{slots_of};
 use ws_tables::{HostPromise, Tables};
 use ws_value::{HostId, Plain};
 
-/// Performs the call whole: the promise of a call of the host is fulfilled with undefined, and nothing more comes of that. False says that no call of the host with this number waits for an answer, and then the reply throws.
+/// Performs the call whole: the promise of a call of the host is fulfilled with undefined, and nothing more comes of
+/// that. False says that no call of the host with this number waits for an answer, and then the reply throws.
 pub fn settle_done(tables: &mut Tables, h: HostId) -> bool
     requires resting { IsResting tables.old }
     requires young { tables.old.age < 2 ^ 62 }

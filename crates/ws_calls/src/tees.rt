@@ -53,7 +53,8 @@ fn make_tee(tables: &mut Tables, source: StreamId) -> Reply
     Reply::MadeTwo(i, j)
 }
 
-/// `stream.tee()`. A stream that a tee reads is locked for good; that it has no tee is asked once more, so that a realm's memory can be counted by its tables alone.
+/// `stream.tee()`. A stream that a tee reads is locked for good; that it has no tee is asked once more, so that a
+/// realm's memory can be counted by its tables alone.
 #[tactic(auto, unfolding(ws_steps::specs::Calls::begin))]
 pub(crate) fn tee(tables: &mut Tables, i: StreamId) -> Reply
     requires ready { CanBegin tables.old }

@@ -21,7 +21,8 @@ use ws_transform::Transform;
 use ws_value::{Plain, PromiseId, StreamId};
 use ws_writable::Writable;
 
-/// The start promise of a transform stream is resolved with the result of its start algorithm: undefined, or the host's promise.
+/// The start promise of a transform stream is resolved with the result of its start algorithm: undefined, or the
+/// host's promise.
 fn start_transform(tables: &mut Tables, started: PromiseId, j: StreamId, start: StartBy)
     requires { 1 + length tables.old.caused.effects ≤ tables.old.caused.capacity }
     ensures { tables.new ≡ record tables.old {
@@ -41,7 +42,8 @@ fn start_transform(tables: &mut Tables, started: PromiseId, j: StreamId, start: 
     }
 }
 
-/// The start algorithm of a half gives the start promise of its transform stream; its controller reacts to a promise that is resolved with it.
+/// The start algorithm of a half gives the start promise of its transform stream; its controller reacts to a promise
+/// that is resolved with it.
 fn start_half(tables: &mut Tables, started: PromiseId, half_started: PromiseId, step: Step)
     requires { 2 + length tables.old.caused.effects ≤ tables.old.caused.capacity }
     ensures { tables.new ≡ record tables.old {
@@ -56,7 +58,8 @@ fn start_half(tables: &mut Tables, started: PromiseId, half_started: PromiseId, 
     tables.caused.push(Effect::Give(Gift::This(half_started), Use::React(step, None)));
 }
 
-/// InitializeTransformStream, and SetUpTransformStreamDefaultController: a transform stream with two halves, which count their chunks.
+/// InitializeTransformStream, and SetUpTransformStreamDefaultController: a transform stream with two halves, which
+/// count their chunks.
 #[tactic(auto, using(ws_tables::proofs::Places::fresh_length), unfolding(ws_steps::specs::Calls::begin))]
 pub(crate) fn make_transform(
     tables: &mut Tables,

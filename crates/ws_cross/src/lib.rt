@@ -1,4 +1,5 @@
-//! Message ports, and the cross-realm transforms at their ends: the record of a port, with a method for each of its operations. The stream at its end has a record of its own.
+//! Message ports, and the cross-realm transforms at their ends: the record of a port, with a method for each of its
+//! operations. The stream at its end has a record of its own.
 #![tactic(auto)]
 
 mod deliver;

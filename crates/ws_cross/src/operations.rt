@@ -10,7 +10,8 @@ use ws_steps::PortOperation;
 use ws_value::PortId;
 
 impl Port {
-    /// Performs an operation of the port, whose number is `me`. `clones` tells whether the chunk that is first in the queue of a writable end can be sent.
+    /// Performs an operation of the port, whose number is `me`. `clones` tells whether the chunk that is first in the
+    /// queue of a writable end can be sent.
     pub fn perform(
         &mut self,
         me: PortId,

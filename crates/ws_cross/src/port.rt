@@ -32,7 +32,8 @@ impl Model for Port {
 }
 
 impl Port {
-    /// A new port, which is entangled, with the stream at this end of it. The backpressure promise of a writable end is made by the call.
+    /// A new port, which is entangled, with the stream at this end of it. The backpressure promise of a writable end
+    /// is made by the call.
     pub fn set_up(side: Side, stream: StreamId, backpressure: Option<PromiseId>) -> Port
         ensures { result ≡ rows.set_up side stream backpressure }
     {

@@ -13,7 +13,8 @@ use ws_value::{Message, Plain, PortId, PromiseId, Value};
 /// An algorithm has succeeded.
 const DONE: Gift = Gift::Fresh(Ok(Plain::Undefined));
 
-/// A write goes on once the backpressure promise has settled; where there is none, in the next job. The other promise is the result of the write.
+/// A write goes on once the backpressure promise has settled; where there is none, in the next job. The other promise
+/// is the result of the write.
 fn wait_for(backpressure: Option<PromiseId>, me: PortId, promise: PromiseId) -> Effect
     ensures { result ≡ rows.wait_for backpressure me promise }
 {
@@ -39,7 +40,8 @@ impl Port {
         fx.push(Effect::Give(Gift::This(promise), u));
     }
 
-    /// The chunk is handed on, to be posted. Where it can't be sent, an error is posted in its place, and the write fails.
+    /// The chunk is handed on, to be posted. Where it can't be sent, an error is posted in its place, and the write
+    /// fails.
     fn hand_on(
         &mut self,
         me: PortId,
@@ -64,7 +66,8 @@ impl Port {
         fx.push(Effect::Give(Gift::Fresh(Err(DATA_CLONE)), Use::Resolve(promise)));
     }
 
-    /// The steps of the write algorithm once the backpressure promise is fulfilled. `clones` tells whether the chunk that is first in the queue of its stream can be sent. The promise is the result of the algorithm.
+    /// The steps of the write algorithm once the backpressure promise is fulfilled. `clones` tells whether the chunk
+    /// that is first in the queue of its stream can be sent. The promise is the result of the algorithm.
     #[tactic(auto, using(crate::proofs::Events::fresh_events), unfolding(ws_steps::specs::Cross::write_goes_on))]
     pub fn write_goes_on(
         &mut self,

@@ -1,4 +1,5 @@
-//! The grammar of scripts, and the reader of a script's text. The grammar is a definition of its own, in `specs/`, and the reader is proved to answer exactly it.
+//! The grammar of scripts, and the reader of a script's text. The grammar is a definition of its own, in `specs/`,
+//! and the reader is proved to answer exactly it.
 #![tactic(auto)]
 
 mod calls;

@@ -12,7 +12,7 @@ use ws_value::NoMemory;
 const MOST_JOBS: u32 = 100_000;
 
 /// A line that performs a call.
-#[derive(Debug, Drop)]
+#[derive(Drop)]
 pub struct Line {
     /// The number of the line in the text, from 1.
     pub number: u32,

@@ -5,7 +5,7 @@ use std::fmt;
 use ws_value::NoMemory;
 
 /// Why a script isn't read.
-#[derive(Clone, Copy, Debug, PartialEq, Eq)]
+#[derive(Debug, Clone, Copy, PartialEq, Eq)]
 pub enum ScriptRefused {
     /// The first line that is outside the grammar, by its number from 1.
     BadLine(u32),

@@ -5,7 +5,7 @@ use std::alloc::Global;
 use ws_value::Text;
 
 /// Why arguments couldn't be had.
-#[derive(Clone, Copy, Debug)]
+#[derive(Clone, Copy)]
 pub enum ArgumentsRefused {
     /// One of them isn't UTF-8.
     NotText,

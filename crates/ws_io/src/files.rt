@@ -5,7 +5,7 @@ use std::alloc::Global;
 use ws_value::{Blob, Text};
 
 /// Why a text wasn't loaded.
-#[derive(Clone, Copy, Debug, PartialEq, Eq)]
+#[derive(Clone, Copy, PartialEq, Eq)]
 pub enum LoadRefused {
     /// There is no such text, or it couldn't be read.
     Failed,

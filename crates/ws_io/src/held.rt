@@ -1,4 +1,6 @@
-//! The output of a process held back: what it takes goes out once its buffer is full, once it is flushed, before the system is asked for more input, and before a write of the notes. So many small writes are one call of the system, and so are many small reads of its input.
+//! The output of a process held back: what it takes goes out once its buffer is full, once it is flushed, before the
+//! system is asked for more input, and before a write of the notes. So many small writes are one call of the system,
+//! and so are many small reads of its input.
 ghost use Rattle.std.specs.Prelude.{◌≡◌, ◌⊎◌, ◌↔◌, [], true, IsErr, OnOk};
 ghost use Rattle.std.specs.Io.{WritesAtMost};
 ghost use Rattle.std.specs.Io.Buffered.{reader_buffer, reader_inner, writer_buffer, writer_contents, writer_capacity};
@@ -108,7 +110,7 @@ impl<W: Write + Drop> Holding<W> {
 pub struct HeldOutput<W: Write + Drop>(RefCell<Holding<W>>);
 
 impl<W: Write + Copy> HeldOutput<W> {
-    /// This writer, held back. Where there is no memory for the buffer, each write goes straight through.
+    /// A writer held back. Where there is no memory for the buffer, each write goes straight through.
     pub fn over(alloc: Global, inner: W) -> HeldOutput<W> {
         let writer = match BufWriter::with_capacity(alloc, ROOM, inner) {
             Ok(writer) => writer,
@@ -122,7 +124,8 @@ impl<W: Write + Copy> HeldOutput<W> {
 }
 
 impl<W: Write + Drop> HeldOutput<W> {
-    /// A reader or a writer of the same process, before each call of which all that is held goes out. Where that fails, so does the call.
+    /// A reader or a writer of the same process, before each call of which all that is held goes out. Where that
+    /// fails, so does the call.
     pub fn before<T>(&self, inner: T) -> AfterOutput<'_, T, W>
         ensures { result.inner ≡ inner }
     {
@@ -132,7 +135,8 @@ impl<W: Write + Drop> HeldOutput<W> {
         }
     }
 
-    /// The input of the same process. It reads ahead as much as its buffer has room for, and before each such read all that is held goes out. Where there is no memory for the buffer, it reads nothing ahead.
+    /// The input of the same process. It reads ahead as much as its buffer has room for, and before each such read all
+    /// that is held goes out. Where there is no memory for the buffer, it reads nothing ahead.
     pub fn input<R: Read + Copy>(
         &self,
         alloc: Global,
@@ -155,7 +159,8 @@ impl<W: Write + Drop> HeldOutput<W> {
         }
     }
 
-    /// How the program ends: as it is told, where all that the output took is written; and else as where a write failed, with the text of that on the notes.
+    /// How the program ends: as it is told, where all that the output took is written; and else as where a write
+    /// failed, with the text of that on the notes.
     pub fn end<N: Sink>(self, ended: ExitCode, notes: &mut N) -> ExitCode
         ensures ends { ((result ≡ ended) × (notes.new ≡ notes.old))
             ⊎ EndsUnwritten (exit_status result) (N.faults notes.old) (N.faults notes.new) (N.got notes.old) (N.got notes.new) }

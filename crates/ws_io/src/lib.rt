@@ -1,4 +1,5 @@
-//! The outside of a program: what it reads from and writes to, the files that it loads, and how a command ends.
+//! The outside of a program: traits for its arguments, input, output and files, forms of them in memory and over std,
+//! its output held back and its input read ahead, and the exit statuses.
 #![tactic(auto)]
 
 mod arguments;

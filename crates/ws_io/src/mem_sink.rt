@@ -46,7 +46,9 @@ impl Model for MemSink {
 }
 
 impl MemSink {
-    /// A sink with room for `room` bytes. Write k, from 0, takes at most the number at k of `most`, whose last holds on. The writes `fails` and the finishes `finish_fails`, counted from 1, fail, and so does a write of bytes where no room is left.
+    /// A sink with room for `room` bytes. Write k, from 0, takes at most the number at k of `most`, whose last holds
+    /// on. The writes `fails` and the finishes `finish_fails`, counted from 1, fail, and so does a write of bytes
+    /// where no room is left.
     pub fn make(
         alloc: Global,
         room: usize,

@@ -47,7 +47,8 @@ impl Model for MemSource {
 }
 
 impl MemSource {
-    /// A source of these bytes. Call k, from 0, moves at most the number at k of `most`, whose last holds on; the calls `fails`, counted from 1, fail.
+    /// A source of these bytes. Call k, from 0, moves at most the number at k of `most`, whose last holds on; the
+    /// calls `fails`, counted from 1, fail.
     pub fn make(
         alloc: Global,
         bytes: &[u8],

@@ -4,7 +4,7 @@ ghost use Rattle.ws_io.specs.Feed.{Feed, Reads};
 ghost use Rattle.ws_io.specs.Gain.{Gains, Writes, Finishes, KeepsTold};
 
 /// A call of the outside failed.
-#[derive(Clone, Copy, Debug, PartialEq, Eq)]
+#[derive(Clone, Copy, PartialEq, Eq)]
 pub struct Failed;
 
 /// What bytes are read from.
@@ -58,7 +58,7 @@ pub trait Gate: Sync {
     fn enter(&self, worker: u32, turn: u64);
 }
 
-/// It holds nobody.
+/// A gate that holds no worker.
 pub struct OpenGate;
 
 impl Gate for OpenGate {

@@ -8,7 +8,7 @@ use crate::{Failed, Sink, write_whole};
 use itoa::{Buffer, Integer};
 
 /// How a command ended.
-#[derive(Clone, Copy, Debug, PartialEq, Eq)]
+#[derive(Clone, Copy, PartialEq, Eq)]
 pub enum Status {
     /// The run, script or check is complete.
     Done,

@@ -4,7 +4,8 @@ use std::marker::Model;
 use ws_steps::{ReadableState, WritableState};
 use ws_value::{Plain, PromiseId};
 
-/// What a pipe looks at of its source and of its destination, whose stored errors stay where they are. It is seen as the `Ends` of the definitions.
+/// What a pipe looks at of its source and of its destination, whose stored errors stay where they are. It is seen as
+/// the `Ends` of the definitions.
 #[derive(Drop)]
 pub struct PipeEnds<'a> {
     pub source_state: ReadableState,

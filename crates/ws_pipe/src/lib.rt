@@ -1,4 +1,5 @@
-//! Pipes from a readable to a writable stream, and the abort signals that end them: the record of one of each, with a method for each of its operations.
+//! Pipes from a readable to a writable stream, and the abort signals that end them: the record of one of each, with a
+//! method for each of its operations.
 #![tactic(auto)]
 
 mod actions;

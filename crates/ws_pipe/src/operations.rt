@@ -32,7 +32,8 @@ pub fn looks_at_ends(operation: &PipeOperation) -> bool
 }
 
 impl Pipe {
-    /// Performs an operation in which the pipe, whose number is `me`, looks at its two ends. No more writes are unsettled than there are promises.
+    /// Performs an operation in which the pipe, whose number is `me`, looks at its two ends. No more writes are
+    /// unsettled than there are promises.
     pub fn perform_with_ends(
         &mut self,
         me: PipeId,
@@ -87,7 +88,8 @@ impl Pipe {
         }
     }
 
-    /// The abort by the pipe's signal, which the way of a chunk doesn't meet, apart, so that `perform_with_ends` has no locals for it.
+    /// The abort by the pipe's signal, which the way of a chunk doesn't meet, apart, so that `perform_with_ends` has
+    /// no locals for it.
     #[cold]
     #[inline(never)]
     fn perform_abort(
@@ -110,7 +112,8 @@ impl Pipe {
         self.abort(me, ends, p, fx, *reason);
     }
 
-    /// The same of `perform_without_ends`.
+    /// Performs an operation that looks at no ends and that a chunk's way through a pipe doesn't meet: apart, as in
+    /// `perform_without_ends`.
     #[cold]
     #[inline(never)]
     fn perform_uncommon(

@@ -1,4 +1,5 @@
-//! The lines of a task. After want of memory a part of a line may have been appended. Where what an event tells is a pair, `pair` is the two reasons that its tee keeps.
+//! The lines of a task. After want of memory a part of a line may have been appended. Where what an event tells is a
+//! pair, `pair` is the two reasons that its tee keeps.
 ghost use Rattle.std.specs.Prelude.{◌≡◌, ◌++◌, OnOk, codes};
 ghost use Rattle.std.specs.Option.{option_copied};
 ghost use Rattle.ws_print.specs.Values.{numbered, plain_text, value_text};
@@ -10,7 +11,8 @@ use crate::values::{print_plain, print_value, tee_in, tee_in_value};
 use ws_steps::{HostCall, Reply};
 use ws_value::{HostId, Message, NoMemory, Outcome, Plain, PortId, StreamId, TeeId, Value};
 
-/// Appends the line of a reply: the number of the script's line, from 1, a blank, the reply. The rank is that of the promise that the reply names, from 0, and is read for no other reply.
+/// Appends the line of a reply: the number of the script's line, from 1, a blank, the reply. The rank is that of the
+/// promise that the reply names, from 0, and is read for no other reply.
 pub fn print_reply(
     out: &mut Vec<u8>,
     number: u32,
@@ -156,7 +158,8 @@ fn print_outcome_if_known(
     }
 }
 
-/// Appends the line of a settled promise, with its rank among the promises that replies named, and `unknown` where the outcome is none.
+/// Appends the line of a settled promise, with its rank among the promises that replies named, and `unknown` where the
+/// outcome is none.
 pub fn print_settled(
     out: &mut Vec<u8>,
     rank: Option<u64>,

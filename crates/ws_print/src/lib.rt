@@ -1,4 +1,5 @@
-//! The printed text of a script's tasks: replies and events. The text is a definition, in `specs/`, and each call is proved to append exactly it.
+//! The printed text of a script's tasks: replies and events. The text is a definition, in `specs/`, and each call is
+//! proved to append exactly it.
 #![tactic(auto)]
 
 mod append;

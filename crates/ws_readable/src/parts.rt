@@ -70,7 +70,7 @@ impl Readable {
         self.close_requested = true;
     }
 
-    /// It pulls no longer, and doesn't pull again. The answer is whether it was to pull again.
+    /// The stream pulls no longer, and doesn't pull again. The answer is whether it was to pull again.
     pub fn end_pull(&mut self) -> bool
         ensures again { result ≡ self.old.slots.pull_again }
         ensures slots { self.new

@@ -1,4 +1,5 @@
-//! What holds of the streams, pipes and promises of a realm, whatever calls and jobs it performs and events its host takes.
+//! What holds of the streams, pipes and promises of a realm, whatever calls and jobs it performs and events its host
+//! takes.
 pub use ws_end_laws::{
     each_fulfilled_pipe_passed_all_it_read, each_outcome_tells_the_end,
     each_pipe_call_makes_a_pipe, each_pipe_counts_its_parts, each_pipe_that_closed_passed_all,

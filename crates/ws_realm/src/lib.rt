@@ -1,6 +1,13 @@
-//! A realm: readable, writable and transform streams, their readers and writers, tees, pipes and the signals that abort them, message ports with the streams at this end of them, promises and one job queue, and the calls on them.
+//! A realm: its public calls, which take memory first, and the laws over its runs.
 //!
-//! It is thin: `ws_tables` has the tables and the performing of effects, `ws_calls` what calls and jobs begin with. Here all memory is taken first, and a realm that performed 2^62 calls and jobs performs no more. `laws` has what holds over every run, `bytes` what holds of byte streams, `tees` what holds of tees, `ports` what holds of message ports, `wants` what holds where a host enqueues only while its transformer is at work, `chains` what holds of a chain of pipes, and `ways` what holds of pipes into and out of identity transform streams, and through these.
+//! It has readable, writable and transform streams, their readers and writers, tees, pipes and the signals that abort
+//! them, message ports with the streams at this end of them, promises and one job queue.
+//!
+//! It is thin: `ws_tables` has the tables and the performing of effects, `ws_calls` what calls and jobs begin with.
+//! Here all memory is taken first, and a realm that performed 2^62 calls and jobs performs no more. `laws` has what
+//! holds over every run, `bytes` what holds of byte streams, `tees` what holds of tees, `ports` what holds of message
+//! ports, `wants` what holds where a host enqueues only while its transformer is at work, `chains` what holds of a
+//! chain of pipes, and `ways` what holds of pipes into and out of identity transform streams, and through these.
 #![tactic(auto)]
 
 pub mod bytes;

@@ -23,7 +23,7 @@ use ws_value::{HostId, NoMemory, Outcome, Plain, PortId, PromiseId, StreamId, Te
 const OLDEST: u64 = 1 << 62;
 
 /// Why a realm performs nothing.
-#[derive(Clone, Copy, Debug, PartialEq, Eq)]
+#[derive(Clone, Copy, PartialEq, Eq)]
 pub enum Why {
     /// The memory that the call or job can need couldn't be had.
     NoMemory,
@@ -31,14 +31,17 @@ pub enum Why {
     Spent,
 }
 
-/// A call that was refused, for want of memory or because the realm is spent. It is handed back (`call` is always there), with the cause.
-#[derive(Debug, Drop)]
+/// A call that was refused, for want of memory or because the realm is spent. It is handed back (`call` is always
+/// there), with the cause.
+#[derive(Drop)]
 pub struct NoRoom {
     pub call: Option<Call>,
     pub why: Why,
 }
 
-/// A realm of readable, writable and transform streams, with their readers and writers, the BYOB requests of byte streams, its tees, its message ports, its pipes and signals, its promises, its one job queue, and what its host hasn't heard of yet. It is seen as its slots, and whether all memory was taken that the next call or job can need.
+/// A realm of readable, writable and transform streams, with their readers and writers, the BYOB requests of byte
+/// streams, its tees, its message ports, its pipes and signals, its promises, its one job queue, and what its host
+/// hasn't heard of yet. It is seen as its slots, and whether all memory was taken that the next call or job can need.
 #[derive(Drop)]
 pub struct Realm {
     tables: Tables,
@@ -71,7 +74,9 @@ impl Realm {
         })
     }
 
-    /// Takes all memory that the next call or job can need, whichever it is: after Ok that one is performed without taking any. For each byte stream whose controller allocates rooms that includes one room, which the next read may use, and for each tee a second copy of the chunk that it holds. A refusal changes nothing.
+    /// Takes all memory that the next call or job can need, whichever it is: after Ok that one is performed without
+    /// taking any. For each byte stream whose controller allocates rooms that includes one room, which the next read
+    /// may use, and for each tee a second copy of the chunk that it holds. A refusal changes nothing.
     pub fn prepare(&mut self) -> Result<(), Why>
         ensures slots { self.new.slots ≡ self.old.slots }
         ensures ready { OnOk result (self.new.prepared ≡ true) }
@@ -94,7 +99,9 @@ impl Realm {
         }
     }
 
-    /// Performs a call with all that it causes, and watches the promise that it answers. One that throws changes nothing, but for the close of a byte stream in whose first descriptor a part of an element was filled: that errors the stream. A call that is refused is handed back, and nothing changes.
+    /// Performs a call with all that it causes, and watches the promise that it answers. One that throws changes
+    /// nothing, but for the close of a byte stream in whose first descriptor a part of an element was filled: that
+    /// errors the stream. A call that is refused is handed back, and nothing changes.
     pub fn call(&mut self, call: Call) -> Result<Reply, NoRoom>
         ensures reply { IfOk result (λ reply. reply ≡ run.reply_to call self.old.slots) }
         ensures slots { OnOk result (self.new.slots ≡ run.after_call call self.old.slots) }
@@ -115,7 +122,9 @@ impl Realm {
         Ok(perform_call(&mut self.tables, call))
     }
 
-    /// Performs `Call::Enqueue` without making a call and a reply of it, as each chunk meets it. Whether the stream took the chunk: it doesn't where the call throws. A refusal changes nothing and drops the chunk: who would have it back makes the call, or prepares before.
+    /// Performs `Call::Enqueue` without making a call and a reply of it, as each chunk meets it. Whether the stream
+    /// took the chunk: it doesn't where the call throws. A refusal changes nothing and drops the chunk: who would have
+    /// it back makes the call, or prepares before.
     pub fn enqueue(&mut self, i: StreamId, chunk: Value) -> Result<bool, Why>
         ensures done { IfOk result (λ done. (done ≡ true) ↔ (run.reply_to (call.Enqueue i chunk) self.old.slots ≡ reply.Done)) }
         ensures slots { OnOk result (self.new.slots ≡ run.after_call (call.Enqueue i chunk) self.old.slots) }
@@ -128,7 +137,9 @@ impl Realm {
         Ok(perform_enqueue(&mut self.tables, i, chunk))
     }
 
-    /// Performs `Call::Settle` with `Answer::Ok` without making a call and a reply of it, as each chunk meets it. Whether the host had been asked so, and hadn't answered: else the call throws. It takes no memory, so the one refusal is that of a spent realm, which changes nothing.
+    /// Performs `Call::Settle` with `Answer::Ok` without making a call and a reply of it, as each chunk meets it.
+    /// Whether the host had been asked so, and hadn't answered: else the call throws. It takes no memory, so the one
+    /// refusal is that of a spent realm, which changes nothing.
     pub fn settle_done(&mut self, h: HostId) -> Result<bool, Why>
         ensures done { IfOk result (λ done. (done ≡ true) ↔ (run.reply_to (call.Settle h answer.Ok) self.old.slots ≡ reply.Done)) }
         ensures slots { OnOk result (self.new.slots ≡ run.after_call (call.Settle h answer.Ok) self.old.slots) }
@@ -143,7 +154,8 @@ impl Realm {
         Ok(settle_done(&mut self.tables, h))
     }
 
-    /// Performs the first job with all that it causes. False says that no job is queued, and then no memory is taken. A refusal changes nothing.
+    /// Performs the first job with all that it causes. False says that no job is queued, and then no memory is taken.
+    /// A refusal changes nothing.
     pub fn job(&mut self) -> Result<bool, Why>
         ensures worked { IfOk result (λ worked. worked ≡ not (run.is_idle self.old.slots)) }
         ensures slots { OnOk result (self.new.slots
@@ -164,7 +176,8 @@ impl Realm {
         Ok(perform_job(&mut self.tables))
     }
 
-    /// Performs jobs until none is queued, or `most` were. One that is queued may be refused: then those before it were performed whole, and it changes nothing, so what the host hasn't heard of waits still.
+    /// Performs jobs until none is queued, or `most` were. One that is queued may be refused: then those before it
+    /// were performed whole, and it changes nothing, so what the host hasn't heard of waits still.
     pub fn work(&mut self, most: u32) -> Result<(), Why>
         ensures slots { OnOk result (self.new.slots ≡ run.work most self.old.slots) }
         ensures partly { OnErr result (StopsWithin most self.old self.new) }
@@ -218,14 +231,16 @@ impl Realm {
         self.tables.promises.rank(p)
     }
 
-    /// The two reasons that tee `t` keeps, which `Plain::Pair` names: none says that there is no such tee, or that not both of its branches were cancelled yet.
+    /// The two reasons that tee `t` keeps, which `Plain::Pair` names: none says that there is no such tee, or that not
+    /// both of its branches were cancelled yet.
     pub fn pair(&self, t: TeeId) -> Option<(Plain, Plain)>
         ensures { result ≡ pair_at t self.now.slots }
     {
         self.tables.pair(t)
     }
 
-    /// Whether there is a port `c` and it is entangled: what its stream tells is posted, and what is delivered to it reaches the stream.
+    /// Whether there is a port `c` and it is entangled: what its stream tells is posted, and what is delivered to it
+    /// reaches the stream.
     pub fn live(&self, c: PortId) -> bool
         ensures { result ≡ is_live c self.now.slots }
     {

@@ -1,4 +1,5 @@
-//! What the host of a node does as it is asked: a pull reads the input once, a transform or a flush asks the stage and enqueues what comes out, a write writes its chunk whole, a close finishes the output.
+//! What the host of a node does as it is asked: a pull reads the input once, a transform or a flush asks the stage and
+//! enqueues what comes out, a write writes its chunk whole, a close finishes the output.
 ghost use Rattle.std.specs.Prelude.{◌≡◌, ◌<◌, ◌≤◌, ◌+◌, ◌^◌, ℕ, suc, [], false, length, true, IfOk, MatchOption, None, OnErr};
 ghost use Rattle.ws_chain_laws.specs.Chain.{source_of};
 ghost use Rattle.ws_io.specs.Moment.{moment};
@@ -89,7 +90,8 @@ impl Node {
         }
     }
 
-    /// Takes what happened first of what the host hasn't heard of, and does what it asks. False says that there is none, or that the realm has stopped.
+    /// Takes what happened first of what the host hasn't heard of, and does what it asks. False says that there is
+    /// none, or that the realm has stopped.
     fn hear<S: Source, K: Sink>(&mut self, alloc: Global, input: &mut S, output: &mut K) -> bool
         requires { Driven self.old }
         ensures driven { Driven self.new }
@@ -155,7 +157,8 @@ impl Node {
         self.ask(Call::Settle(id, Answer::Fail(Plain::Fault(fault))))
     }
 
-    /// Answers the pull that waits by one read of the input, once all that was read before was had. An input that ended or failed isn't read again.
+    /// Answers the pull that waits by one read of the input, once all that was read before was had. An input that
+    /// ended or failed isn't read again.
     fn read<S: Source>(&mut self, alloc: Global, input: &mut S)
         requires { HasCounts self.old }
         ensures { Reads self.old self.new
@@ -217,7 +220,8 @@ impl Node {
         let _taken = self.enqueue(SOURCE, chunk);
     }
 
-    /// A chunk that came to a stage is pushed. A stage that is over is asked nothing more, and nothing is answered for it.
+    /// A chunk that came to a stage is pushed. A stage that is over is asked nothing more, and nothing is answered for
+    /// it.
     fn transform(&mut self, id: HostId, stream: StreamId, value: Value)
         requires { MayAnswer self.old (host_call.Transform stream value) }
         ensures { transforms_by id stream value self.old self.new }
@@ -318,7 +322,8 @@ impl Node {
         self.sink.0 == stream.0
     }
 
-    /// Writes a chunk whole. An output that was finished or has failed takes no more, nor does one that has all bytes before the abort.
+    /// Writes a chunk whole. An output that was finished or has failed takes no more, nor does one that has all bytes
+    /// before the abort.
     fn write_chunk<K: Sink>(&mut self, id: HostId, chunk: &Chunk, output: &mut K)
         requires { MayWrite chunk.now self.old }
         ensures { Writes id chunk.now self.old self.new
@@ -356,7 +361,7 @@ impl Node {
         }
     }
 
-    /// So many bytes were written. Where these are all before the abort, its signal is triggered.
+    /// Counts bytes that were written. Where these are all before the abort, its signal is triggered.
     fn draw_near(&mut self, count: u64)
         ensures { DrawsNear count self.old self.new }
     {

@@ -3,12 +3,26 @@ ghost use Rattle.ws_runner.specs.Flow.{EachGoesOn, EachNodeKeepsFlow};
 
 use ws_io::Sink;
 
-/// From a new node on, over any number of turns: what went out is a first part of what the stages make of what was read; while nothing was lost, that and what lies in the node is all of it; an output that was finished has all, the input was read to its end, and each stage ended fine; of the chunks that went out, those before the one that holds the last byte of the output have fewer bytes than the abort names; and a stage that is bad is so over what was read. With which reason the pipe into the sink is rejected, and by which cause, `Whole::status` tells.
+/// From a new node on, over any number of turns, what went out is a first part of what the stages make of what was
+/// read.
+///
+/// While nothing was lost, that and what lies in the node, through the stages that it hasn't passed, is all of it; an
+/// output that was finished has all, the input was read to its end, and each stage ended fine; of the chunks that
+/// went out, those before the one that holds the last byte of the output have fewer bytes than the abort names; and a
+/// stage that is bad is so over what was read. With which reason the pipe into the sink is rejected, and by which
+/// cause, `Whole::status` tells.
+///
+/// Of: nodes, stages.
 pub fn each_node_keeps_flow()
     ensures { EachNodeKeepsFlow }
 {}
 
-/// What `Whole::turn` tells of a turn (`Went`) holds of no turn at all, and of two together where it holds of one and then of the other: so of any number of turns. What follows of it, from a new node on, `each_node_keeps_flow` says.
+/// What `Whole::turn` tells of a turn (`Went`) holds of no turn at all, and of two together where it holds of one and
+/// then of the other: so of any number of turns.
+///
+/// What follows of it, from a new node on, `each_node_keeps_flow` says.
+///
+/// Of: nodes.
 pub fn each_turn_goes_on<K: Sink>()
     ensures { EachGoesOn K.got }
 {}

@@ -26,7 +26,8 @@ fn begin(realm: &mut Realm, call: Call) -> Result<Reply, NoMemory>
     }
 }
 
-/// Each stage at its beginning, and a transform stream for it: the writable half has room for one chunk, the readable half has none.
+/// Each stage at its beginning, and a transform stream for it: the writable half has room for one chunk, the readable
+/// half has none.
 fn make_stages(alloc: Global, realm: &mut Realm, placed: &[Placed]) -> Result<Vec<Work>, NoMemory>
     requires { list_all is_in_range (map (λ p. p.stage) placed.now) ≡ true }
     ensures stages { IfOk result (λ stages. stages.items ≡ all_begun (map (λ p. p.stage) placed.now)) }

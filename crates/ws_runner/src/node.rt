@@ -1,4 +1,5 @@
-//! A node: the realm of a pipeline, from a source that the input feeds through the stages to a sink that feeds the output, and what its host knows of these.
+//! A node: the realm of a pipeline, from a source that the input feeds through the stages to a sink that feeds the
+//! output, and what its host knows of these.
 ghost use Rattle.std.specs.Prelude.{◌≡◌, ◌↔◌, ◌≤◌, ◌<◌, true, Err, IfOk, OnErr, OnOk, None, Some};
 ghost use Rattle.ws_realm.specs.Seen.{oldest, outcome_named};
 ghost use Rattle.ws_realm.specs.declared.realm.Why.TheVariants as why;
@@ -22,7 +23,7 @@ use ws_stages::Work;
 pub const SOURCE: StreamId = StreamId(0);
 
 /// What became of the input.
-#[derive(Clone, Copy, Debug, PartialEq, Eq)]
+#[derive(Clone, Copy)]
 pub enum Input {
     /// It may be read.
     Open,
@@ -35,7 +36,7 @@ pub enum Input {
 }
 
 /// What became of the output.
-#[derive(Clone, Copy, Debug, PartialEq, Eq)]
+#[derive(Clone, Copy)]
 pub enum Output {
     /// It may be written and finished.
     Open,
@@ -48,7 +49,7 @@ pub enum Output {
 }
 
 /// The abort of a run after some bytes of output.
-#[derive(Clone, Copy, Debug, PartialEq, Eq)]
+#[derive(Clone, Copy)]
 pub struct Abort {
     /// The signal of the last pipe.
     pub signal: SignalId,
@@ -56,7 +57,8 @@ pub struct Abort {
     pub left: u64,
 }
 
-/// The realm of a run, and what its host knows. The streams were made in order: the source, for each stage the two halves of its transform stream, and the sink.
+/// The realm of a run, and what its host knows. The streams were made in order: the source, for each stage the two
+/// halves of its transform stream, and the sink.
 #[derive(Drop)]
 pub struct Node {
     pub realm: Realm,
@@ -73,7 +75,7 @@ pub struct Node {
     pub most: u64,
     /// The bytes that were read.
     pub taken: u64,
-    /// Of these, those that the first stage, or where there is none the output, hasn't had.
+    /// The bytes of these that the first stage, or where there is none the output, hasn't had.
     pub ahead: u64,
     /// The pull that isn't answered yet.
     pub asked: Option<HostId>,
@@ -125,7 +127,8 @@ impl Node {
         }
     }
 
-    /// The realm performs jobs until none is queued, or `most` were; how many more there might have been is answered. A refusal stops it.
+    /// The realm performs jobs until none is queued, or `most` were; how many more there might have been is answered.
+    /// A refusal stops it.
     pub fn work(&mut self, most: u32) -> u32
         ensures works { Works self.old self.new }
         ensures worked { 0 < most → self.new.stopped ≡ None → HasWorked self.old self.new }

@@ -11,7 +11,10 @@ use std::sync::{Wait, WaitMethods};
 use ws_io::{Sink, Source, Status};
 use ws_stages::Plan;
 
-/// Runs a plan: what its stages make of the input is written to the output, which is then finished. Without stages at most one piece of 4,096 bytes is read and not yet written. One thread performs all stages, whatever workers the plan has. A turn that finds nothing to do is followed by another, and so is that of a realm that is spent, after 2^62 calls and jobs: no status stands for it, and the call doesn't return then.
+/// Runs a plan: what its stages make of the input is written to the output, which is then finished. Without stages at
+/// most one piece of 4,096 bytes is read and not yet written. One thread performs all stages, whatever workers the
+/// plan has. A turn that finds nothing to do is followed by another, and so is that of a realm that is spent, after
+/// 2^62 calls and jobs: no status stands for it, and the call doesn't return then.
 pub fn run_nodes<R: Wait, S: Source, K: Sink>(
     rt: &R,
     alloc: Global,

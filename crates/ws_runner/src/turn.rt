@@ -1,6 +1,6 @@
 //! What a turn of a node answers.
 /// How a turn of a node ended.
-#[derive(Clone, Copy, Debug, PartialEq, Eq)]
+#[derive(Clone, Copy, PartialEq, Eq)]
 pub enum Turn {
     /// A job was performed, or an event was heard of.
     Worked,

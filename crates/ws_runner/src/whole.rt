@@ -15,7 +15,8 @@ use ws_io::{Sink, Source, Status};
 use ws_realm::{NoMemory, Why};
 use ws_stages::Plan;
 
-/// The one node of a run: a realm with all streams and pipes of the plan, from the input to the output. It holds neither; each turn is lent both.
+/// The one node of a run: a realm with all streams and pipes of the plan, from the input to the output. It holds
+/// neither; each turn is lent both.
 #[derive(Drop)]
 pub struct Whole {
     node: Node,
@@ -69,7 +70,8 @@ impl Whole {
         }
     }
 
-    /// How the run ends, by how its pipe into the sink settled: none says that it is pending, and that memory wasn't wanting. An output that was finished has all that came out, so that is the end whatever is wanting afterwards.
+    /// How the run ends, by how its pipe into the sink settled: none says that it is pending, and that memory wasn't
+    /// wanting. An output that was finished has all that came out, so that is the end whatever is wanting afterwards.
     pub fn status(&self) -> Option<Status>
         ensures { EndsAs result self.now }
     {

@@ -32,8 +32,8 @@ fn run_text<K: Sink>(alloc: Global, text: &[u8], output: &mut K) -> Status
 
 /// Performs the script that the input holds, and writes what it prints on the output.
 ///
-/// The whole input is read before the first line is performed. A script of more than 1,048,576 bytes is refused at line
-/// 0, and one with a line outside the grammar at the first such line, counted from 1; then nothing is performed.
+/// The whole input is read before the first line is performed. A script of more than 1,048,576 bytes is refused at
+/// line 0, and one with a line outside the grammar at the first such line, counted from 1; then nothing is performed.
 pub fn run_script<S: Source, K: Sink>(alloc: Global, input: &mut S, output: &mut K) -> Status
     // What it may end with.
     ensures ends { ScriptEnds result

@@ -143,5 +143,3 @@ send i s =
     if has_source i s
     then unlocked_readable i throws_data_clone (λ source. make_stream (send_readable source)) s
     else unlocked_writable i throws_data_clone (λ dest. make_stream (send_writable dest)) s
-
--- a call on a port, where there is one of this number

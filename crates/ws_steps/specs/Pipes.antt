@@ -216,11 +216,12 @@ abbrev pub unless : Bool → Action → Option Action
 unless true action = None
 unless false action = Some action
 
--- where the destination wants a chunk, read; else, where it is writable, wait until it is ready
+-- react to the writer's promise of being ready, where it has one
 abbrev pub wait_for_ready : PipeId → Acts → Option PromiseId → Acts
 wait_for_ready me a None = a
 wait_for_ready me a (Some ready) = causing (reacts ready (PipeReady me) ∷ []) (with_slots (record a.slots { waits = true }) a)
 
+-- where the destination wants a chunk, read; else, where it is writable and the pipe doesn't wait yet, wait until it is ready
 abbrev pub read_or_wait : PipeId → Ends → Acts → Acts
 read_or_wait me ends a =
     if ends.dest_wants

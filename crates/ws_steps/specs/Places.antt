@@ -56,7 +56,8 @@ pub record Prices : Type 0 where
   pub copy : ℕ
   pub reads : StreamId → ℕ
 
--- the price of so many turns, promises, jobs, events, host's numbers, queued entries and requests
+-- the price of so many of each: its seven numbers, here and in each line below, are turns, promises, jobs, events, host's numbers, queued
+-- entries and requests, in this order
 abbrev pub price : Prices → ℕ → ℕ → ℕ → ℕ → ℕ → ℕ → ℕ → ℕ
 price π t p j e h q r = t * π.turn + p * π.promise + j * π.job + e * π.event + h * π.host + q * π.queued + r * π.request
 

@@ -32,7 +32,7 @@ pub record Slots : Type 0 where
   pub source : StreamId
   pub branch1 : StreamId
   pub branch2 : StreamId
-  -- whether a read is under way
+  -- how it stands to its source: no read is under way, one is or its chunk is still to be handed on, or none follows
   pub phase : TeePhase
   -- whether a branch asked for a chunk while a read was under way
   pub read_again : Bool

@@ -158,7 +158,8 @@ turns (suc n) a = turns n (turn a.slots a.effects)
 abbrev pub after_turns : ℕ → Done → Agenda
 after_turns n d = turns n (record { slots = d.slots; effects = d.caused })
 
--- the slots once all effects are performed, with those that they cause: as many turns as they may take
+-- The slots once all effects are performed: not the first alone, but the whole sequence of those that were caused, each with all that
+-- it causes. It takes as many turns as they may take
 unfoldable pub performed : Done → Slots
 performed d = (after_turns (measure d.slots d.caused) d).slots
 

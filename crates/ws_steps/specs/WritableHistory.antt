@@ -31,7 +31,8 @@ use Rattle.ws_steps.specs.Run.{Entry, Called, Worked, Heard, step, reply_to}
 use Rattle.ws_steps.specs.Histories.{is_same, in_step, over}
 
 -- what went through a writable stream: the values that WritableStreamDefaultWriterWrite appended, the values with which its write
--- algorithm was performed, each as it is handed on, to the host's algorithm or to that of a transform stream, how many of these writes were fulfilled, and how often its close algorithm was performed
+-- algorithm was performed, each as it is handed on, to the host's algorithm, to that of a transform stream or to be posted by a port, how
+-- many of these writes were fulfilled, and how often its close algorithm was performed
 pub record Writes : Type 0 where
   pub written : List Value
   pub acted : List Value

@@ -7,7 +7,7 @@ use crate::{
 use ws_value::{Chunk, PipeId, Plain, PortId, PromiseId, SignalId, StreamId, TeeId, Value};
 
 /// Whose algorithms a stream performs.
-#[derive(Clone, Copy, Debug, PartialEq, Eq)]
+#[derive(Clone, Copy)]
 pub enum Owner {
     /// Those of the host's underlying source or sink.
     Host,
@@ -20,7 +20,7 @@ pub enum Owner {
 }
 
 /// The promise that an algorithm gives.
-#[derive(Clone, Copy, Debug, PartialEq, Eq)]
+#[derive(Clone, Copy)]
 pub enum Gift {
     /// A promise that there is already.
     This(PromiseId),
@@ -29,7 +29,7 @@ pub enum Gift {
 }
 
 /// What is done with a promise that an algorithm gives.
-#[derive(Clone, Copy, Debug, PartialEq, Eq)]
+#[derive(Clone, Copy)]
 pub enum Use {
     /// A step reacts to it. Where there is a derived promise, it is the result of the reaction.
     React(Step, Option<PromiseId>),
@@ -37,8 +37,9 @@ pub enum Use {
     Resolve(PromiseId),
 }
 
-/// What stands on the agenda. While a call or a job is performed nothing but an effect changes what a realm holds, apart from what the call makes and names, and the taking of the job.
-#[derive(Debug, Drop)]
+/// What stands on the agenda. While a call or a job is performed nothing but an effect changes what a realm holds,
+/// apart from what the call makes and names, and the taking of the job.
+#[derive(Drop)]
 pub enum Effect {
     /// An operation of a readable stream, whichever its controller is.
     Readable(StreamId, ReadableOperation),
@@ -60,13 +61,16 @@ pub enum Effect {
     StartAlgorithm(StreamId, Step, StartBy),
     /// The pull algorithm of a readable stream is performed, and its controller reacts to the promise.
     PullAlgorithm(StreamId),
-    /// The cancel algorithm of a readable stream is performed with a reason. The promise is the result of reacting to it with steps that return undefined.
+    /// The cancel algorithm of a readable stream is performed with a reason. The promise is the result of reacting to
+    /// it with steps that return undefined.
     CancelAlgorithm(StreamId, Plain, PromiseId),
-    /// The write algorithm of a writable stream is performed with the chunk at the front of its queue, and its controller reacts to the promise.
+    /// The write algorithm of a writable stream is performed with the chunk at the front of its queue, and its
+    /// controller reacts to the promise.
     WriteAlgorithm(StreamId),
     /// The close algorithm of a writable stream is performed, and its controller reacts to the promise.
     CloseAlgorithm(StreamId),
-    /// The abort algorithm of a writable stream is performed with a reason, and the stream reacts to it. The promise is that of the abort.
+    /// The abort algorithm of a writable stream is performed with a reason, and the stream reacts to it. The promise
+    /// is that of the abort.
     AbortAlgorithm(StreamId, Plain, PromiseId),
     /// The chunk steps of a read request of a stream are performed with a chunk.
     ChunkSteps(StreamId, ReadRequest, Value),

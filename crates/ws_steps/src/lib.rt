@@ -1,4 +1,5 @@
-//! The step table: the words in which a realm's operations are told. The operations themselves are definitions, in `specs/`, a file a section of the Streams Standard.
+//! The step table: the abstract operations of the Streams Standard as definitions, in `specs/`, a file a section, and
+//! the words in which they are told.
 #![tactic(auto)]
 
 mod byte;

@@ -3,7 +3,7 @@ use crate::{ReadableState, WritableState};
 use ws_value::{PipeId, Plain, PromiseId, Value};
 
 /// What `pipeTo` is told not to do to its ends: its options `preventClose`, `preventAbort` and `preventCancel`.
-#[derive(Clone, Copy, Debug, PartialEq, Eq)]
+#[derive(Clone, Copy)]
 pub struct Prevent {
     /// The destination isn't closed once the source has closed.
     pub close: bool,
@@ -14,7 +14,7 @@ pub struct Prevent {
 }
 
 /// How far a pipe is.
-#[derive(Clone, Copy, Debug, PartialEq, Eq)]
+#[derive(Clone, Copy, PartialEq, Eq)]
 pub enum Phase {
     /// It reads and writes.
     Flowing,
@@ -27,7 +27,7 @@ pub enum Phase {
 }
 
 /// What a pipe does to its ends before it is over.
-#[derive(Clone, Copy, Debug, PartialEq, Eq)]
+#[derive(Clone, Copy)]
 pub enum Action {
     /// WritableStreamAbort of the destination.
     AbortDest(Plain),
@@ -35,12 +35,13 @@ pub enum Action {
     CancelSource(Plain),
     /// WritableStreamDefaultWriterCloseWithErrorPropagation of the destination.
     CloseDest,
-    /// Since a signal was triggered, the destination is aborted where it is writable and that isn't prevented, and the source is cancelled where it is readable and that isn't prevented.
+    /// Since a signal was triggered, the destination is aborted where it is writable and that isn't prevented, and the
+    /// source is cancelled where it is readable and that isn't prevented.
     BySignal(Plain),
 }
 
 /// What a pipe looks at of its source and of its destination.
-#[derive(Clone, Copy, Debug, PartialEq, Eq)]
+#[derive(Clone, Copy)]
 pub struct Ends {
     pub source_state: ReadableState,
     pub source_error: Plain,
@@ -57,7 +58,7 @@ pub struct Ends {
 }
 
 /// An operation of a pipe, as it stands on the agenda.
-#[derive(Debug, Drop)]
+#[derive(Drop)]
 pub enum PipeOperation {
     /// It looks at its two ends.
     Look,
@@ -84,7 +85,7 @@ pub enum PipeOperation {
 }
 
 /// An operation of a signal, as it stands on the agenda.
-#[derive(Clone, Copy, Debug, PartialEq, Eq)]
+#[derive(Clone, Copy)]
 pub enum SignalOperation {
     /// A pipe is to be aborted by it.
     Add(PipeId),

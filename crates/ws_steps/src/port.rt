@@ -3,7 +3,7 @@ use crate::Use;
 use ws_value::{Message, Plain, PromiseId, Value};
 
 /// Of which kind the stream at an end of a port is.
-#[derive(Clone, Copy, Debug, PartialEq, Eq)]
+#[derive(Clone, Copy)]
 pub enum Side {
     /// A readable stream, whose chunks come by the port.
     Readable,
@@ -11,8 +11,9 @@ pub enum Side {
     Writable,
 }
 
-/// An operation of a port, as it stands on the agenda. What is to be done with the promise that an algorithm of its stream gives is told to it.
-#[derive(Debug, Drop)]
+/// An operation of a port, as it stands on the agenda. What is to be done with the promise that an algorithm of its
+/// stream gives is told to it.
+#[derive(Drop)]
 pub enum PortOperation {
     /// The pull algorithm of a readable end.
     Pull,
@@ -20,7 +21,8 @@ pub enum PortOperation {
     Leave(Plain, Use),
     /// The write algorithm of a writable end, of the chunk that is first in the queue of the stream.
     Write(Use),
-    /// The backpressure promise for which a write waited has settled. The promise is the result of the write algorithm.
+    /// The backpressure promise for which a write waited has settled. The promise is the result of the write
+    /// algorithm.
     WriteGoesOn(PromiseId),
     /// The chunk of a write is posted. The promise is the result of the write algorithm.
     PostChunk(Value, PromiseId),

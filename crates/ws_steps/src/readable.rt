@@ -5,7 +5,7 @@ ghost use Rattle.ws_steps.specs.Queues.{size_of};
 use ws_value::{PipeId, Plain, PromiseId, TeeId, Value};
 
 /// The state of a readable stream.
-#[derive(Clone, Copy, Debug, PartialEq, Eq)]
+#[derive(Clone, Copy, PartialEq, Eq)]
 pub enum ReadableState {
     Readable,
     Closed,
@@ -13,7 +13,7 @@ pub enum ReadableState {
 }
 
 /// The size of a chunk in a queue: 1, or its length in bytes, which is 0 for a value that isn't bytes.
-#[derive(Clone, Copy, Debug, PartialEq, Eq)]
+#[derive(Clone, Copy)]
 pub enum SizeBy {
     Count,
     ByteLength,
@@ -35,7 +35,7 @@ impl SizeBy {
 }
 
 /// Whom a read answers.
-#[derive(Clone, Copy, Debug, PartialEq, Eq)]
+#[derive(Clone, Copy)]
 pub enum ReadRequest {
     /// The promise of a `read`.
     Promise(PromiseId),
@@ -45,8 +45,9 @@ pub enum ReadRequest {
     Tee(TeeId),
 }
 
-/// An operation of a readable stream, as it stands on the agenda: one that either kind of controller has, and the enqueuing of a default controller. Promises that it answers are told to it.
-#[derive(Debug, Drop)]
+/// An operation of a readable stream, as it stands on the agenda: one that either kind of controller has, and the
+/// enqueuing of a default controller. Promises that it answers are told to it.
+#[derive(Drop)]
 pub enum ReadableOperation {
     /// ReadableStreamReaderGenericInitialize by a default reader, with the reader's closed promise.
     InitializeReader(PromiseId),

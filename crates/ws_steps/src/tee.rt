@@ -1,16 +1,17 @@
-//! The parts of a tee of a readable stream with a default controller, whose two branches are streams with numbers of their own.
+//! The parts of a tee of a readable stream with a default controller, whose two branches are streams with numbers of
+//! their own.
 use crate::Use;
 use ws_value::{Plain, Value};
 
 /// One of the two branches of a tee.
-#[derive(Clone, Copy, Debug, PartialEq, Eq)]
+#[derive(Clone, Copy)]
 pub enum Half {
     First,
     Second,
 }
 
 /// How a tee stands to its source.
-#[derive(Clone, Copy, Debug, PartialEq, Eq)]
+#[derive(Clone, Copy, PartialEq, Eq)]
 pub enum TeePhase {
     /// No read is under way.
     Resting,
@@ -20,8 +21,9 @@ pub enum TeePhase {
     Over,
 }
 
-/// An operation of a tee, as it stands on the agenda. What is to be done with the promise that an algorithm of a branch gives is told to it.
-#[derive(Debug, Drop)]
+/// An operation of a tee, as it stands on the agenda. What is to be done with the promise that an algorithm of a
+/// branch gives is told to it.
+#[derive(Drop)]
 pub enum TeeOperation {
     /// The pull algorithm of a branch.
     PullBranch,

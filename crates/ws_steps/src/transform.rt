@@ -3,11 +3,11 @@ use crate::{ReadableState, Use, WritableState};
 use ws_value::{Plain, PortId, PromiseId, Value};
 
 /// A transform stream. No call and no event names it; its halves are streams, with numbers of their own.
-#[derive(Clone, Copy, Debug, PartialEq, Eq)]
+#[derive(Clone, Copy)]
 pub struct TransformId(pub u32);
 
 /// Whose transform, flush and cancel algorithms a transform stream performs.
-#[derive(Clone, Copy, Debug, PartialEq, Eq)]
+#[derive(Clone, Copy)]
 pub enum Kind {
     /// There is no transformer: each chunk is enqueued as it is.
     Identity,
@@ -16,7 +16,7 @@ pub enum Kind {
 }
 
 /// To whom the chunk of a write is handed on.
-#[derive(Clone, Copy, Debug, PartialEq, Eq)]
+#[derive(Clone, Copy)]
 pub enum Taker {
     /// The write algorithm of the host's underlying sink.
     ToHost,
@@ -27,7 +27,7 @@ pub enum Taker {
 }
 
 /// What a transform stream looks at of its two halves.
-#[derive(Clone, Copy, Debug, PartialEq, Eq)]
+#[derive(Clone, Copy)]
 pub struct Halves {
     /// The controller of the readable half can close or enqueue.
     pub can_enqueue: bool,
@@ -39,8 +39,9 @@ pub struct Halves {
     pub writable_error: Plain,
 }
 
-/// An operation of a transform stream, as it stands on the agenda. What is to be done with the promise that an algorithm gives is told to it.
-#[derive(Debug, Drop)]
+/// An operation of a transform stream, as it stands on the agenda. What is to be done with the promise that an
+/// algorithm gives is told to it.
+#[derive(Drop)]
 pub enum TransformOperation {
     /// TransformStreamDefaultSinkWriteAlgorithm, of the chunk that is first in the queue of the writable half.
     SinkWrite(Use),
@@ -68,8 +69,10 @@ pub enum TransformOperation {
     SourceCancel(Plain, Use),
     /// The reaction to the flush algorithm, with the finish promise.
     FlushSettled(PromiseId, Result<Plain, Plain>),
-    /// The reaction to the cancel algorithm that an abort of the writable half performed with a reason, with the finish promise.
+    /// The reaction to the cancel algorithm that an abort of the writable half performed with a reason, with the
+    /// finish promise.
     AbortSettled(PromiseId, Plain, Result<Plain, Plain>),
-    /// The reaction to the cancel algorithm that a cancel of the readable half performed with a reason, with the finish promise.
+    /// The reaction to the cancel algorithm that a cancel of the readable half performed with a reason, with the
+    /// finish promise.
     CancelSettled(PromiseId, Plain, Result<Plain, Plain>),
 }

@@ -3,7 +3,7 @@ use crate::Taker;
 use ws_value::{Plain, PromiseId, Value};
 
 /// The state of a writable stream.
-#[derive(Clone, Copy, Debug, PartialEq, Eq)]
+#[derive(Clone, Copy, PartialEq, Eq)]
 pub enum WritableState {
     Writable,
     /// The stream is to be errored once it has started and nothing is in flight.
@@ -13,14 +13,15 @@ pub enum WritableState {
 }
 
 /// The promises of a writer.
-#[derive(Clone, Copy, Debug, PartialEq, Eq)]
+#[derive(Clone, Copy)]
 pub struct Writer {
     pub ready: PromiseId,
     pub closed: PromiseId,
 }
 
-/// An abort that the sink hasn't heard of yet.
-#[derive(Clone, Copy, Debug, PartialEq, Eq)]
+/// An abort that waits until the stream has erred, [[pendingAbortRequest]]. The sink hears of it then, unless the
+/// stream was erroring already when it was asked.
+#[derive(Clone, Copy)]
 pub struct PendingAbort {
     pub promise: PromiseId,
     pub reason: Plain,
@@ -28,7 +29,7 @@ pub struct PendingAbort {
 }
 
 /// What stands in the queue of a writable stream's controller.
-#[derive(Debug, Drop)]
+#[derive(Drop)]
 pub enum WriteRecord {
     Chunk(Value),
     /// The place of a chunk that was handed on to the write algorithm, until that ends.
@@ -38,7 +39,7 @@ pub enum WriteRecord {
 }
 
 /// An operation of a writable stream, as it stands on the agenda. Promises that it answers are told to it.
-#[derive(Debug, Drop)]
+#[derive(Drop)]
 pub enum WritableOperation {
     /// SetUpWritableStreamDefaultWriter, with the writer's promises.
     SetUpWriter(Writer),

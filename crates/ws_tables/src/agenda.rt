@@ -32,7 +32,9 @@ fn drop_performed(under_way: &mut Vec<Effect>)
 }
 
 impl Tables {
-    /// Takes out the first effect that was caused, and puts the others that were before those that wait; where none was caused it takes the first that waits. What was caused changes places with the list for the effect under way, for a copy of an effect costs much.
+    /// Takes out the first effect that was caused, and puts the others that were before those that wait; where none
+    /// was caused it takes the first that waits. What was caused changes places with the list for the effect under
+    /// way, for a copy of an effect costs much.
     #[inline(always)]
     fn next_effect(&mut self, under_way: &mut Vec<Effect>) -> bool
         requires room { CanPutFirst self.old }

@@ -14,7 +14,8 @@ use ws_steps::{
 use ws_value::{Chunk, HostId, Plain, PortId, PromiseId, RequestId, StreamId, TeeId, Value};
 
 impl Tables {
-    /// The start algorithm's result is undefined, or the host's promise. The start promise is resolved with it, and the step reacts to that.
+    /// The start algorithm's result is undefined, or the host's promise. The start promise is resolved with it, and
+    /// the step reacts to that.
     #[inline(never)]
     #[tactic(auto, unfolding(ws_steps::specs::Turns::row))]
     fn start_algorithm(&mut self, i: StreamId, step: &Step, start: StartBy)
@@ -91,7 +92,8 @@ impl Tables {
         }
     }
 
-    /// The write algorithm gets the chunk once the stream hands it on: to the host at once, and to a transform stream or a port once it has no backpressure.
+    /// The write algorithm gets the chunk once the stream hands it on: to the host at once, and to a transform stream
+    /// or a port once it has no backpressure.
     #[tactic(auto, unfolding(ws_steps::specs::Turns::row))]
     fn write_algorithm(&mut self, i: StreamId)
         requires quiet { self.old.caused.effects ≡ [] }
@@ -159,7 +161,8 @@ impl Tables {
         }
     }
 
-    /// Calls a host's algorithm: a new promise with a new number, which the host hears of, and what is done with the promise.
+    /// Calls a host's algorithm: a new promise with a new number, which the host hears of, and what is done with the
+    /// promise.
     #[inline(never)]
     #[tactic(auto, using(crate::proofs::Places::fresh_jobs, crate::proofs::Places::fresh_events), unfolding(ws_steps::specs::Turns::row, ws_steps::specs::Turns::call_host))]
     fn call_host(&mut self, call: &mut HostCall, u: &Use)
@@ -387,7 +390,9 @@ impl Tables {
         }
     }
 
-    /// Performs an effect where it stands. Where that causes but one, of a chunk's way through a pipe, it is performed as well: to put it on the agenda and to take it from there costs as much. What is no operation of a record is performed in functions apart, so that this one has no locals and an operation is reached by a jump.
+    /// Performs an effect where it stands. Where that causes but one, of a chunk's way through a pipe, it is performed
+    /// as well: to put it on the agenda and to take it from there costs as much. What is no operation of a record is
+    /// performed in functions apart, so that this one has no locals and an operation is reached by a jump.
     #[inline(never)]
     pub(crate) fn perform_at(&mut self, effect: &mut Effect)
         requires quiet { self.old.caused.effects ≡ [] }

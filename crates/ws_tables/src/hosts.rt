@@ -4,8 +4,8 @@ ghost use Rattle.std.specs.Prelude.{◌≡◌, ◌<◌, ◌^◌, Some, None};
 use std::marker::Model;
 use ws_value::PromiseId;
 
-/// The promise of a call of a host's algorithm, until the host settles it, in 8 bytes: 0 once it is settled, and before
-/// 1 more than its number.
+/// The promise of a call of a host's algorithm, until the host settles it, in 8 bytes: 0 once it is settled, and
+/// before 1 more than its number.
 #[derive(Drop)]
 pub struct HostPromise {
     code: usize,

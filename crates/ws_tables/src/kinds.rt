@@ -19,7 +19,8 @@ use ws_value::{SignalId, StreamId};
 pub(crate) const LIST_PLACES: usize = 4;
 
 impl Tables {
-    /// Notes a stream one of whose lists has too few places left, or which has no room left to allocate from, so that these are made before the next call or job.
+    /// Notes a stream one of whose lists has too few places left, or which has no room left to allocate from, so that
+    /// these are made before the next call or job.
     fn note_growth(&mut self, i: StreamId, had_room: bool, has_room: bool)
         requires room { had_room ≡ true → has_room ≡ false → vec_len self.old.grown < vec_capacity self.old.grown }
         ensures { NotesGrowth i had_room has_room self.old self.new }

@@ -6,13 +6,14 @@ use crate::kinds::LIST_PLACES;
 use crate::tables::{Stream, Tables};
 use ws_value::{NoMemory, SignalId, StreamId};
 
-/// So few read requests, aborts and tees that the places for them are reckoned without a look for an overflow.
+/// Up to so many read requests, aborts and tees the places for them are reckoned without a look for an overflow.
 const FEW: usize = 0x7fff_ffff;
 
 impl Tables {
     ghost use Rattle.ws_tables.specs.View.{slots_of};
 
-    /// How many places serve any list, beside those of read requests that wait: for each pipe that a signal would abort, for each tee, and for what any call or job takes by itself, as many as the list that needs the most.
+    /// How many places serve any list, beside those of read requests that wait: for each pipe that a signal would
+    /// abort, for each tee, and for what any call or job takes by itself, as many as the list that needs the most.
     fn base(&self) -> Option<usize>
         ensures { IfSome result (λ n. n ≡ base_places self.now) }
     {
@@ -47,7 +48,8 @@ impl Tables {
             && turns <= self.under_way.capacity()
     }
 
-    /// Whether there are places for `n` hosts' answers, to note `n` streams that grew, and for the other records that a call or job can make.
+    /// Whether there are places for `n` hosts' answers, to note `n` streams that grew, and for the other records that
+    /// a call or job can make.
     #[inline]
     fn has_records(&self, n: usize) -> bool
         ensures { result ≡ true → HasRecords n self.now }
@@ -88,7 +90,8 @@ impl Tables {
         self.has_records(base)
     }
 
-    /// Makes places in each list of the stream of this number, where there is one, and a room for a byte stream that allocates rooms.
+    /// Makes places in each list of the stream of this number, where there is one, and a room for a byte stream that
+    /// allocates rooms.
     fn prepare_stream(&mut self, i: StreamId) -> Result<(), NoMemory>
         ensures ok { OnOk result (HasPlacesAt i self.new) }
         ensures places { PlacesStay self.old.streams.items self.new.streams.items }
@@ -106,7 +109,8 @@ impl Tables {
         }
     }
 
-    /// Makes places in each list of each stream that had fewer, and a room for each byte stream that allocates rooms and had none.
+    /// Makes places in each list of each stream that had fewer, and a room for each byte stream that allocates rooms
+    /// and had none.
     fn prepare_streams(&mut self) -> Result<(), NoMemory>
         requires covered { IsCovered self.old }
         ensures ok { OnOk result (EachHasPlaces self.new.streams.items) }
@@ -228,7 +232,10 @@ impl Tables {
         Ok(())
     }
 
-    /// Takes all memory that the next call or job can need, whichever it is: what any takes by itself, the steps of each read request that waits, the abort of each pipe by its signal, and the read and the cancel by each tee, which gets a second copy of the chunk that it holds. `room` of the definitions has the numbers. Each byte stream whose controller allocates rooms has one ready, for a call or job reads a stream once at most.
+    /// Takes all memory that the next call or job can need, whichever it is: what any takes by itself, the steps of
+    /// each read request that waits, the abort of each pipe by its signal, and the read and the cancel by each tee,
+    /// which gets a second copy of the chunk that it holds. `room` of the definitions has the numbers. Each byte
+    /// stream whose controller allocates rooms has one ready, for a call or job reads a stream once at most.
     pub fn prepare(&mut self) -> Result<(), NoMemory>
         requires resting { IsResting self.old }
         ensures ok { OnOk result (IsPrepared self.new) }

@@ -47,13 +47,15 @@ pub struct Tables {
     pub under_way: Vec<Effect>,
     /// How many read requests wait, in all streams.
     pub waiting: usize,
-    /// The streams in whose lists places are to be made before the next call or job, or which are to get a room to allocate from.
+    /// The streams in whose lists places are to be made before the next call or job, or which are to get a room to
+    /// allocate from.
     pub grown: Vec<StreamId>,
     /// How many pipes the signals would abort, if each were triggered.
     pub aborts: usize,
     /// The signals in whose lists places are to be made before the next call or job.
     pub full: Vec<SignalId>,
-    /// Whether a tee may hold a chunk of which it has no second copy, so that one is to be made before the next call or job.
+    /// Whether a tee may hold a chunk of which it has no second copy, so that one is to be made before the next call
+    /// or job.
     pub uncopied: bool,
     /// How many calls and jobs were performed.
     pub age: u64,

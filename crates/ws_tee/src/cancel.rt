@@ -44,7 +44,8 @@ impl Tee {
         }
     }
 
-    /// Keeps the reason of a branch that wasn't cancelled. Where the other branch was, the source is cancelled with both reasons.
+    /// Keeps the reason of a branch that wasn't cancelled. Where the other branch was, the source is cancelled with
+    /// both reasons.
     fn cancel_by(&mut self, me: TeeId, p: &mut Promises, fx: &mut Agenda, half: Half, reason: Plain)
         requires promise_room { HasPromiseRoom 1 p.old }
         requires effect_room { HasEffectRoom 2 fx.old }

@@ -1,4 +1,5 @@
-//! Tees: the record of one, with a method for each of its operations. Its source and its branches are streams with records of their own.
+//! Tees: the record of one, with a method for each of its operations. Its source and its branches are streams with
+//! records of their own.
 #![tactic(auto)]
 
 mod cancel;

@@ -97,7 +97,8 @@ impl Tee {
             || self.copy.is_some()
     }
 
-    /// Makes a second copy of the chunk that it holds, where it goes to both branches and there is none: bytes that are shared are shared once more.
+    /// Makes a second copy of the chunk that it holds, where it goes to both branches and there is none: bytes that
+    /// are shared are shared once more.
     pub fn prepare(&mut self, alloc: Global) -> Result<(), NoMemory>
         ensures ok { OnOk result (CanHand self.new) }
         ensures slots { self.new.slots ≡ self.old.slots }

@@ -49,7 +49,8 @@ impl Transform {
         }
     }
 
-    /// Performs the transform algorithm with the chunk that was handed on. The promise is the result of the reaction to its own.
+    /// Performs the transform algorithm with the chunk that was handed on. The promise is the result of the reaction
+    /// to its own.
     #[tactic(auto, unfolding(ws_steps::specs::Transform::transform_chunk))]
     pub fn transform_chunk(
         &self,
@@ -73,7 +74,8 @@ impl Transform {
         }
     }
 
-    /// TransformStreamDefaultControllerPerformTransform, with the chunk that is first in the queue of the writable half.
+    /// TransformStreamDefaultControllerPerformTransform, with the chunk that is first in the queue of the writable
+    /// half.
     fn perform_transform(&self, me: TransformId, p: &mut Promises, fx: &mut Agenda, u: &Use)
         requires promise_room { HasPromiseRoom 1 p.old }
         requires effect_room { HasEffectRoom 2 fx.old }
@@ -117,7 +119,8 @@ impl Transform {
         }
     }
 
-    /// The steps of TransformStreamDefaultSinkWriteAlgorithm once the change promise is fulfilled. The promise is the result of the algorithm.
+    /// The steps of TransformStreamDefaultSinkWriteAlgorithm once the change promise is fulfilled. The promise is the
+    /// result of the algorithm.
     #[tactic(auto, unfolding(ws_steps::specs::Transform::write_goes_on))]
     pub fn write_goes_on(
         &self,

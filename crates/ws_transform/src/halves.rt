@@ -4,7 +4,8 @@ use std::marker::Model;
 use ws_steps::{ReadableState, WritableState};
 use ws_value::Plain;
 
-/// What a transform stream looks at of its two halves, whose stored errors stay where they are. It is seen as the `Halves` of the definitions.
+/// What a transform stream looks at of its two halves, whose stored errors stay where they are. It is seen as the
+/// `Halves` of the definitions.
 #[derive(Drop)]
 pub struct TransformHalves<'a> {
     /// ReadableStreamDefaultControllerCanCloseOrEnqueue of the readable half.

@@ -1,4 +1,5 @@
-//! Transform streams: the record of one, with a method for each of its operations. Its two halves are streams with records of their own.
+//! Transform streams: the record of one, with a method for each of its operations. Its two halves are streams with
+//! records of their own.
 #![tactic(auto)]
 
 mod algorithms;

@@ -94,7 +94,8 @@ impl Transform {
         }
     }
 
-    /// The reactions to what a finish performed, which the way of a chunk doesn't meet, apart, so that `perform_with_halves` has no locals for them.
+    /// The reactions to what a finish performed, which the way of a chunk doesn't meet, apart, so that
+    /// `perform_with_halves` has no locals for them.
     #[cold]
     #[inline(never)]
     fn perform_finish(
@@ -127,7 +128,8 @@ impl Transform {
         }
     }
 
-    /// The same of `perform_without_halves`.
+    /// Performs an operation that looks at no halves and that a chunk's way doesn't meet: apart, as in
+    /// `perform_without_halves`.
     #[cold]
     #[inline(never)]
     fn perform_uncommon(

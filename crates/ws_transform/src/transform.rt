@@ -33,7 +33,8 @@ impl Model for Transform {
 }
 
 impl Transform {
-    /// InitializeTransformStream: a new transform stream with these two halves. Its change promise is made by the call.
+    /// InitializeTransformStream: a new transform stream with these two halves. Its change promise is made by the
+    /// call.
     pub fn set_up(
         kind: Kind,
         writable: StreamId,

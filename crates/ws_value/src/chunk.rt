@@ -6,7 +6,7 @@ use std::alloc::Global;
 use std::marker::Model;
 
 /// The bytes of a vector from an index on.
-#[derive(Debug, Drop)]
+#[derive(Drop)]
 struct Tail {
     bytes: Vec<u8>,
     start: usize,
@@ -44,14 +44,14 @@ impl Tail {
 }
 
 /// Bytes that several chunks may share, or a buffer that one chunk owns.
-#[derive(Debug, Drop)]
+#[derive(Drop)]
 enum Held {
     Shared(Bytes),
     Owned(Tail),
 }
 
 /// Bytes that pass through a stream, seen as a list.
-#[derive(Debug, Drop)]
+#[derive(Drop)]
 pub struct Chunk {
     held: Held,
 }

@@ -1,5 +1,5 @@
 /// Why a stream errored or a promise was rejected.
-#[derive(Clone, Copy, Debug, PartialEq, Eq)]
+#[derive(Clone, Copy)]
 pub enum Fault {
     /// ECMAScript's TypeError, of any message.
     TypeError,

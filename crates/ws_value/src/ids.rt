@@ -1,37 +1,38 @@
-//! Numbers that name the objects of one realm. Each kind is numbered from 0 in order of making, and no number is used again.
+//! Numbers that name the objects of one realm. Each kind is numbered from 0 in order of making, and no number is used
+//! again.
 
 /// A stream.
-#[derive(Clone, Copy, Debug, PartialEq, Eq)]
+#[derive(Clone, Copy)]
 pub struct StreamId(pub u32);
 
 /// A tee.
-#[derive(Clone, Copy, Debug, PartialEq, Eq)]
+#[derive(Clone, Copy)]
 pub struct TeeId(pub u32);
 
 /// A reader or a writer.
-#[derive(Clone, Copy, Debug, PartialEq, Eq)]
+#[derive(Clone, Copy)]
 pub struct LockId(pub u128);
 
 /// A promise.
-#[derive(Clone, Copy, Debug, PartialEq, Eq)]
+#[derive(Clone, Copy)]
 pub struct PromiseId(pub u128);
 
 /// A call of a host's algorithm.
-#[derive(Clone, Copy, Debug, PartialEq, Eq)]
+#[derive(Clone, Copy)]
 pub struct HostId(pub u128);
 
 /// A message port.
-#[derive(Clone, Copy, Debug, PartialEq, Eq)]
+#[derive(Clone, Copy)]
 pub struct PortId(pub u128);
 
 /// A pipe from a readable to a writable stream.
-#[derive(Clone, Copy, Debug, PartialEq, Eq)]
+#[derive(Clone, Copy)]
 pub struct PipeId(pub u128);
 
 /// An abort signal.
-#[derive(Clone, Copy, Debug, PartialEq, Eq)]
+#[derive(Clone, Copy)]
 pub struct SignalId(pub u128);
 
 /// A BYOB request of a byte stream.
-#[derive(Clone, Copy, Debug, PartialEq, Eq)]
+#[derive(Clone, Copy)]
 pub struct RequestId(pub u128);

@@ -1,4 +1,5 @@
-//! The data that streams carry: chunks of bytes, plain values, reasons, messages, and the numbers that name a realm's objects.
+//! The data that streams carry: chunks of bytes, plain values, reasons, messages, and the numbers that name a realm's
+//! objects.
 #![tactic(auto)]
 
 mod chunk;

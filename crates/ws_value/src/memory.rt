@@ -3,7 +3,7 @@ use std::error::Error;
 use std::fmt;
 
 /// Want of memory: the one answer that any call that allocates may give at any time.
-#[derive(Clone, Copy, Debug, PartialEq, Eq)]
+#[derive(Debug, Clone, Copy)]
 pub struct NoMemory;
 
 impl fmt::Display for NoMemory {

@@ -8,7 +8,7 @@ use std::alloc::Global;
 use std::marker::Model;
 
 /// An owned buffer that is still to be filled, seen as its bytes.
-#[derive(Debug, Drop)]
+#[derive(Drop)]
 pub struct Room {
     bytes: Vec<u8>,
 }

@@ -5,7 +5,7 @@ use std::alloc::Global;
 use std::marker::Model;
 
 /// A text from outside, as a word of a command line or a file's name, seen as its bytes. It need not be UTF-8.
-#[derive(Debug, Drop)]
+#[derive(Drop)]
 pub struct Text {
     bytes: Vec<u8>,
 }
@@ -48,7 +48,7 @@ impl Text {
 }
 
 /// Bytes that were loaded or printed whole, seen as a list.
-#[derive(Debug, Drop)]
+#[derive(Drop)]
 pub struct Blob {
     bytes: Vec<u8>,
 }

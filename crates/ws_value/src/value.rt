@@ -5,7 +5,7 @@ use crate::{Chunk, Fault, NoMemory, TeeId};
 use std::alloc::Global;
 
 /// A value that isn't bytes. Reasons of errors, cancels and aborts are always plain.
-#[derive(Clone, Copy, Debug, PartialEq, Eq)]
+#[derive(Clone, Copy)]
 pub enum Plain {
     Undefined,
     Number(u64),
@@ -32,7 +32,7 @@ impl Plain {
 }
 
 /// What a stream carries.
-#[derive(Debug, Drop)]
+#[derive(Drop)]
 pub enum Value {
     Plain(Plain),
     Bytes(Chunk),
@@ -60,8 +60,9 @@ impl Value {
     }
 }
 
-/// What the two ends of a transferred stream send each other: a pull upwards, a chunk or the close downwards, an error both ways.
-#[derive(Debug, Drop)]
+/// What the two ends of a transferred stream send each other: a pull upwards, a chunk or the close downwards, an error
+/// both ways.
+#[derive(Drop)]
 pub enum Message {
     Pull,
     Chunk(Value),
@@ -70,7 +71,7 @@ pub enum Message {
 }
 
 /// The state of a promise, with its result.
-#[derive(Debug, Drop)]
+#[derive(Drop)]
 pub enum Outcome {
     Pending,
     Fulfilled(Plain),

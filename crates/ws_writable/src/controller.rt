@@ -13,7 +13,8 @@ use ws_steps::{
 };
 use ws_value::{StreamId, Value};
 
-/// A chunk is taken: the host's write algorithm is called with it, a transform algorithm is performed, or it is posted.
+/// A chunk is taken: the host's write algorithm is called with it, a transform algorithm is performed, or it is
+/// posted.
 fn taken_by(me: StreamId, chunk: Value, taker: Taker) -> Effect
     ensures { result ≡ rows.taken_by me chunk taker }
 {

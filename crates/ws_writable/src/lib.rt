@@ -1,4 +1,5 @@
-//! Writable streams with a default controller and a default writer: the record of one stream, with a method for each of its abstract operations.
+//! Writable streams with a default controller and a default writer: the record of one stream, with a method for each
+//! of its abstract operations.
 #![tactic(auto)]
 
 mod backpressure;

@@ -41,7 +41,7 @@ impl Writable {
         }
     }
 
-    /// The same for what the way of a chunk doesn't meet, apart, so that `perform` has no locals for it.
+    /// Performs an operation that the way of a chunk doesn't meet: apart, so that `perform` has no locals for it.
     #[cold]
     #[inline(never)]
     fn perform_uncommon(

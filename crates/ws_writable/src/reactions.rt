@@ -53,7 +53,8 @@ impl Writable {
         self.queue.pop();
     }
 
-    /// The controller's reaction to its write algorithm: WritableStreamFinishInFlightWrite, WritableStreamFinishInFlightWriteWithError.
+    /// The controller's reaction to its write algorithm: WritableStreamFinishInFlightWrite,
+    /// WritableStreamFinishInFlightWriteWithError.
     #[tactic(auto, unfolding(ws_steps::specs::Writable::write_settled))]
     pub fn write_settled(
         &mut self,

@@ -29,7 +29,8 @@ pub fn settle_pending(p: &mut Promises, promise: PromiseId, outcome: Result<Plai
     }
 }
 
-/// WritableStreamDefaultWriterEnsureReadyPromiseRejected: where the promise is pending, it is rejected, and else it becomes a new one that is rejected. The answer is the promise from then on.
+/// WritableStreamDefaultWriterEnsureReadyPromiseRejected: where the promise is pending, it is rejected, and else it
+/// becomes a new one that is rejected. The answer is the promise from then on.
 #[tactic(auto, unfolding(ws_steps::specs::Writable::ensure_rejected))]
 pub fn ensure_rejected(p: &mut Promises, promise: PromiseId, r: Plain) -> PromiseId
     requires promise_room { HasPromiseRoom 1 p.old }

@@ -29,7 +29,8 @@ fn abort_of(promise: PromiseId, reason: Plain, was_already_erroring: bool) -> Pe
     }
 }
 
-/// A writable stream with its default controller and the writer that locks it. It is seen as its slots, and as the places in memory for entries of its queue and for write requests.
+/// A writable stream with its default controller and the writer that locks it. It is seen as its slots, and as the
+/// places in memory for entries of its queue and for write requests.
 #[derive(Drop)]
 pub struct Writable {
     pub(crate) owner: Owner,
@@ -76,7 +77,8 @@ impl Model for Writable {
 }
 
 impl Writable {
-    /// InitializeWritableStream, and SetUpWritableStreamDefaultController: a new stream, whose start algorithm is still to be performed. It has no places in memory; `reserve` makes them.
+    /// InitializeWritableStream, and SetUpWritableStreamDefaultController: a new stream, whose start algorithm is
+    /// still to be performed. It has no places in memory; `reserve` makes them.
     pub fn make(alloc: Global, owner: Owner, hwm: u64, size_by: SizeBy) -> Writable
         ensures { result.slots ≡ rows.set_up owner hwm size_by }
     {
@@ -258,7 +260,8 @@ impl Writable {
         self.start_erroring(me, p, fx, reason);
     }
 
-    /// The host's sink hears of its first abort by a signal; nobody does for the half of a transform stream, or the end of a port.
+    /// The host's sink hears of its first abort by a signal; nobody does for the half of a transform stream, or the
+    /// end of a port.
     fn signal(&mut self, me: StreamId, p: &mut Promises, reason: Plain)
         requires event_room { HasEventRoom 1 p.old }
         ensures row { (fx : SeenAgenda) → acts_of self.new p.new fx
@@ -302,7 +305,8 @@ impl Writable {
         self.begin_abort(me, p, fx, reason, promise);
     }
 
-    /// WritableStreamAbort where the stream is writable, and so has no abort pending; else the promise is resolved with undefined.
+    /// WritableStreamAbort where the stream is writable, and so has no abort pending; else the promise is resolved
+    /// with undefined.
     #[tactic(auto, unfolding(ws_steps::specs::Writable::abort_if_writable))]
     pub fn abort_if_writable(
         &mut self,

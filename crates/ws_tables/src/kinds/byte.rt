@@ -31,7 +31,8 @@ impl Tables {
         }
     }
 
-    /// Performs an operation that either kind of controller has, where there is a stream of this number with a byte controller.
+    /// Performs an operation that either kind of controller has, where there is a stream of this number with a byte
+    /// controller.
     pub(crate) fn perform_byte_readable(&mut self, i: StreamId, operation: ReadableOperation)
         requires bytes { has_readable i (slots_of self.old) ≡ false }
         requires quiet { self.old.caused.effects ≡ [] }

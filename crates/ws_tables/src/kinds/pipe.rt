@@ -48,7 +48,8 @@ fn pipe_ends(streams: &Vec<Stream>, source: StreamId, dest: StreamId) -> PipeEnd
 }
 
 impl Tables {
-    /// Performs an operation in which the pipe looks at its two ends, apart, so that the others have no locals for them.
+    /// Performs an operation in which the pipe looks at its two ends, apart, so that the others have no locals for
+    /// them.
     fn perform_looking_pipe(&mut self, p: PipeId, operation: &mut PipeOperation)
         requires quiet { self.old.caused.effects ≡ [] }
         requires room { HasRoomFor (effect.Pipe p operation.old) self.old }

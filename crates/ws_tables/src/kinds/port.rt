@@ -30,7 +30,8 @@ impl Tables {
         self.ports[c.0 as usize].is_live()
     }
 
-    /// Whether the chunk that is first in the queue of a writable stream can be sent; where there is none, nothing can fail.
+    /// Whether the chunk that is first in the queue of a writable stream can be sent; where there is none, nothing can
+    /// fail.
     fn first_clones(&self, i: StreamId) -> bool
         ensures { result ≡ clones_first (first_value (writable_at i (slots_of self.now)).queue) }
     {

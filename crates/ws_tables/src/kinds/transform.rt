@@ -50,7 +50,8 @@ fn transform_halves(
 }
 
 impl Tables {
-    /// Performs an operation in which the transform stream looks at its two halves, apart, so that the others have no locals for them.
+    /// Performs an operation in which the transform stream looks at its two halves, apart, so that the others have no
+    /// locals for them.
     fn perform_looking_transform(&mut self, t: TransformId, operation: &mut TransformOperation)
         requires quiet { self.old.caused.effects ≡ [] }
         requires room { HasRoomFor (effect.Transform t operation.old) self.old }
