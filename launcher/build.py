@@ -1,0 +1,239 @@
+#!/usr/bin/env python3
+"""Proves and builds the program, in a copy of its crates, by the kit's own gate: `rt ci` proves as many crates side by side as there are processors
+and memory for, those with the longest chain behind them first, and keeps what passed, for a build that was interrupted and for the gate. It says on
+standard error how far it is. (`rt lib` locks all crates below its own, so that two of them wait for each other.)"""
+import contextlib
+import ctypes
+import errno
+import fcntl
+import os
+import pathlib
+import queue
+import re
+import shutil
+import signal
+import subprocess
+import sys
+import tempfile
+import threading
+import time
+
+import exits
+import kit
+import progress
+import sources
+
+HEARTBEAT_SECONDS = 30
+# What a build takes at most, in bytes.
+ROOM_NEEDED = 4 << 30
+# The lock has the number of the process that builds.
+LOCK, LOG = sources.OUT / "build.lock", sources.OUT / "build.log"
+# How far the build under way is, and how the last one ended that didn't end well: its status and why.
+PROGRESS, FAILED = sources.OUT / "build.progress", sources.OUT / "build.failed"
+ENDED = re.compile(r"^rt: (\w+) (proved|is kept)\b")
+DIES_WITH_PARENT = 1
+
+
+def lock():
+    """A handle that holds the lock of builds in this checkout, or None where another build has it."""
+    try:
+        sources.OUT.mkdir(parents=True, exist_ok=True)
+        held = open(LOCK, "a")
+    except OSError as error:
+        raise exits.Stop(exits.NO_FOLDER, f"the program is built in {sources.OUT}, which can't be written: {error.strerror}") from None
+    try:
+        fcntl.flock(held, fcntl.LOCK_EX | fcntl.LOCK_NB)
+    except BlockingIOError:
+        held.close()
+        return None
+    return held
+
+
+@contextlib.contextmanager
+def room():
+    """A folder for the copy, which goes as the build ends. Where TMPDIR names none it is in /var/tmp, since a build takes gigabytes."""
+    top = os.environ.get("TMPDIR") or ("/var/tmp" if os.access("/var/tmp", os.W_OK) else None)
+    try:
+        folder = tempfile.mkdtemp(prefix="streams-build-", dir=top)
+    except OSError as error:
+        raise exits.Stop(exits.NO_FOLDER, f"{top or 'the folder for temporary files'} can't be written: {error.strerror}; set TMPDIR to one that can") from None
+    try:
+        free = shutil.disk_usage(folder).free
+        if free < ROOM_NEEDED:
+            raise exits.Stop(exits.NO_ROOM, f"{os.path.dirname(folder)} has {free >> 20:,} MiB free, and a build takes up to {ROOM_NEEDED >> 20:,}: make room, or set TMPDIR")
+        yield pathlib.Path(folder)
+    finally:
+        shutil.rmtree(folder, ignore_errors=True)
+
+
+def tell(line):
+    """Says how far the build is, here and to those who wait for it."""
+    exits.say(line)
+    new = PROGRESS.with_suffix(".new")
+    new.write_text(line)
+    os.replace(new, PROGRESS)
+
+
+def lines_of(running):
+    """The lines that a process writes, and an empty one where it is silent for a while."""
+    lines = queue.Queue()
+
+    def read():
+        for line in running.stdout:
+            lines.put(line)
+        lines.put(None)
+
+    threading.Thread(target=read, daemon=True).start()
+    while True:
+        try:
+            line = lines.get(timeout=HEARTBEAT_SECONDS)
+        except queue.Empty:
+            line = ""
+        if line is None:
+            return
+        yield line
+
+
+def prove(folder):
+    """Proves and builds the copy, says how far it is, and stops where that fails."""
+    with_parent = ctypes.CDLL(None).prctl
+    try:
+        # What rt starts ends with rt; and rt with this process, however this ends.
+        running = subprocess.Popen(
+            ["rt", "ci"], cwd=folder, stdin=subprocess.DEVNULL, stdout=subprocess.PIPE, stderr=subprocess.STDOUT, text=True, errors="replace",
+            preexec_fn=lambda: with_parent(DIES_WITH_PARENT, signal.SIGKILL),
+        )
+    except OSError as error:
+        raise exits.Stop(exits.NO_PROCESS, f"rt can't be started: {error.strerror}") from None
+    said, begun, far = [], time.monotonic(), progress.Progress()
+    try:
+        for line in lines_of(running):
+            said.append(line)
+            ended, gone = ENDED.match(line), time.monotonic() - begun
+            if ended and ended[1] in far.cost:
+                if ended[2] == "proved":
+                    far.proved(ended[1], gone)
+                else:
+                    far.kept(ended[1])
+            if ended or not line:
+                tell(f"{f'{ended[1]} {ended[2]}' if ended else 'proving'}: {far.told(gone)}")
+        status = running.wait()
+    finally:
+        running.kill()
+        running.wait()
+    if status:
+        print("".join(said), end="", file=sys.stderr)
+        raise exits.Stop(exits.NOT_PROVED, "a crate could not be proved, or the program not built: what rt said stands above")
+
+
+def install(made, told):
+    """Puts the program where it is run from. A run beside this one meets the old program or the new."""
+    new = sources.OUT / f"{sources.PROGRAM}.new"
+    shutil.copy(made, new)
+    sources.SUM.unlink(missing_ok=True)
+    os.replace(new, sources.BUILT)
+    sources.SUM.write_text(told)
+
+
+def make():
+    """Proves, builds and installs the program."""
+    begun = time.time()
+    try:
+        with room() as folder:
+            told = sources.sum_of()
+            sources.copy_to(folder)
+            prove(folder)
+            install(folder / "crates" / sources.PROGRAM / "out" / sources.PROGRAM, told)
+            # Sources that changed meanwhile are newer than it.
+            os.utime(sources.BUILT, (begun, begun))
+    except OSError as error:
+        if error.errno in (errno.ENOSPC, errno.EDQUOT):
+            raise exits.Stop(exits.NO_ROOM, f"there is no room left on the disk ({error.filename}): make room, or set TMPDIR") from None
+        raise exits.Stop(exits.NO_FOLDER, f"{error.filename or 'a file'} can't be read or written: {error.strerror}") from None
+
+
+def end(number, _):
+    """Ends the build where its process is told to end."""
+    signal.signal(number, signal.SIG_IGN)
+    raise exits.Stop(exits.ENDED, "the build was ended before it was done: what was proved is kept, and the next one goes on from there")
+
+
+def build():
+    """Builds the program. The caller holds the lock."""
+    for number in (signal.SIGTERM, signal.SIGINT, signal.SIGHUP):
+        signal.signal(number, end)
+    for path in (PROGRESS, FAILED):
+        path.unlink(missing_ok=True)
+    LOCK.write_text(f"{os.getpid()}\n")
+    tell("the proof begins")
+    try:
+        make()
+    except exits.Stop as why:
+        FAILED.write_text(f"{why.status} {why}")
+        raise
+    tell("the program is proved and built")
+
+
+def start():
+    """Has the program built by a process of its own, unless one is at work. It takes the lock over, and writes into a log."""
+    held = lock()
+    if held:
+        with held, open(LOG, "w") as log:
+            how = {"stdin": subprocess.DEVNULL, "stdout": log, "stderr": log, "start_new_session": True}
+            subprocess.Popen([sys.executable, "-B", __file__], pass_fds=[held.fileno()], **how)
+
+
+def how_far():
+    """How far the build under way is."""
+    try:
+        return PROGRESS.read_text()
+    except OSError:
+        return "the proof begins"
+
+
+def follow():
+    """Waits while another process builds, and says how far it is. Stops where that build failed."""
+    said, since = None, 0.0
+    while True:
+        held = lock()
+        if held:
+            held.close()
+            break
+        line, now = how_far(), time.monotonic()
+        if line != said or now - since > HEARTBEAT_SECONDS:
+            exits.say(line)
+            said, since = line, now
+        time.sleep(0.5)
+    if FAILED.exists():
+        status, _, why = FAILED.read_text().partition(" ")
+        if int(status) != exits.ENDED:
+            raise exits.Stop(int(status), f"{why} ({LOG})" if int(status) == exits.NOT_PROVED else why)
+
+
+def wait():
+    """Returns when the program is built: builds it, or waits for who does."""
+    while not sources.is_built():
+        held = lock()
+        if not held:
+            follow()
+            continue
+        with held:
+            # (who held it before may have built it)
+            if not sources.is_built():
+                build()
+    for number in (signal.SIGTERM, signal.SIGINT, signal.SIGHUP):
+        signal.signal(number, signal.SIG_DFL)
+
+
+def main():
+    """Builds by itself, as the child of a first answer, which handed it the lock and has the processors first."""
+    os.nice(5)
+    try:
+        build()
+    except exits.Stop as why:
+        exits.say(why)
+        sys.exit(why.status)
+
+
+if __name__ == "__main__":
+    main()

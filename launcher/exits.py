@@ -1,0 +1,34 @@
+"""How the launcher itself ends, by the numbers of sysexits.h, which the program has no use for."""
+import sys
+
+# The program couldn't be proved or built.
+NOT_PROVED = 70
+# A process couldn't be started.
+NO_PROCESS = 71
+# rt or python3 isn't there.
+NO_TOOL = 72
+# A folder can't be written.
+NO_FOLDER = 73
+# The disk has no room.
+NO_ROOM = 74
+# The build was ended before it was done.
+ENDED = 75
+# The kit is another one.
+OTHER_KIT = 78
+
+
+class Stop(Exception):
+    """Why the launcher can't go on, in one line, and its exit status."""
+
+    def __init__(self, status, why):
+        super().__init__(why)
+        self.status = status
+
+
+def say(line):
+    """Writes a line on standard error, where there is one."""
+    if sys.stderr is not None:
+        try:
+            print(f"streams: {line}", file=sys.stderr, flush=True)
+        except OSError:
+            pass

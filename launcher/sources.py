@@ -1,0 +1,89 @@
+"""The crates that the program stands on: which they are, what they are made of, and whether the program was built of just that."""
+import functools
+import hashlib
+import os
+import pathlib
+import shutil
+
+ROOT = pathlib.Path(__file__).resolve().parent.parent
+PROGRAM = "streams"
+OUT = ROOT / "crates" / PROGRAM / "out"
+BUILT = OUT / PROGRAM
+# The sum of the sources that the program was built of.
+SUM = OUT / "sources.sum"
+# Beside src/, specs/ and proofs/ what the program's stored run is made of.
+PARTS = ("src", "specs", "proofs", "args", "stdin", "stdout", "status", "data")
+
+
+@functools.lru_cache(maxsize=None)
+def rows():
+    """Each line of crates.txt by its crate."""
+    lines = [line.split("#")[0].strip() for line in (ROOT / "crates.txt").read_text().splitlines()]
+    return {line.split()[0].rstrip(":"): line for line in lines if line}
+
+
+@functools.lru_cache(maxsize=None)
+def libraries():
+    """Each crate with the repository's own crates that it uses."""
+    return {crate: [name for name in row.partition(":")[2].split() if name in rows()] for crate, row in rows().items()}
+
+
+@functools.lru_cache(maxsize=None)
+def needed():
+    """The program's crate and all that it stands on."""
+    found, left = set(), [PROGRAM]
+    while left:
+        crate = left.pop()
+        if crate not in found:
+            found.add(crate)
+            left += libraries()[crate]
+    return found
+
+
+def is_source(path):
+    """Whether a file is read by a proof: what an editor leaves beside one isn't."""
+    return not path.name.startswith(".") and not path.name.endswith("~")
+
+
+def files():
+    """The files that the program is built of."""
+    for crate in sorted(needed()):
+        for part in PARTS:
+            path = ROOT / "crates" / crate / part
+            if path.is_dir():
+                yield from sorted(it for it in path.rglob("*") if it.is_file() and is_source(it))
+            elif path.exists():
+                yield path
+
+
+def sum_of():
+    """A checksum of all that the program is built of."""
+    told = hashlib.sha256("\n".join(rows()[crate] for crate in sorted(needed())).encode())
+    for path in [ROOT / "HANDLES", *files()]:
+        told.update(f"\n{path.relative_to(ROOT)}\n".encode())
+        told.update(path.read_bytes())
+    return told.hexdigest()
+
+
+def is_built():
+    """Whether the program is there and was built of these sources. A file that was only touched changes nothing."""
+    if not os.access(BUILT, os.X_OK) or not SUM.exists() or SUM.read_text() != sum_of():
+        return False
+    try:
+        os.utime(BUILT)
+    except OSError:
+        # It is asked again next time.
+        pass
+    return True
+
+
+def copy_to(room):
+    """Copies what the proofs of these crates read: no must-fail edits, no tests, no other program."""
+    for path in files():
+        to = room / path.relative_to(ROOT)
+        to.parent.mkdir(parents=True, exist_ok=True)
+        shutil.copyfile(path, to)
+    (room / "crates.txt").write_text("".join(f"{row}\n" for crate, row in rows().items() if crate in needed()))
+    shutil.copyfile(ROOT / "HANDLES", room / "HANDLES")
+    # For rt it is the top of a repository.
+    (room / ".git").mkdir()

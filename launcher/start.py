@@ -1,0 +1,44 @@
+#!/usr/bin/env python3
+"""What `./streams` does where the program isn't built or is older than its sources: it has it proved and built, and answers small jobs meanwhile."""
+import os
+import signal
+import sys
+
+import build
+import exits
+import first
+import given
+import kit
+import sources
+
+
+def run(words):
+    """Becomes the proved program."""
+    given.restore()
+    os.execv(sources.BUILT, [sources.PROGRAM, *words])
+
+
+def main(words):
+    # As the program has it, a process that is told to end by Ctrl-C or a signal just ends.
+    signal.signal(signal.SIGINT, signal.SIG_DFL)
+    given.keep_closed()
+    try:
+        if not sources.is_built():
+            if sources.BUILT.exists():
+                exits.say("the program is older than its sources")
+            kit.require()
+            answer = None if os.environ.get("STREAMS_PROVED") else first.answer(words)
+            if answer is not None:
+                return answer
+            build.wait()
+        run(words)
+    except exits.Stop as why:
+        exits.say(why)
+        return why.status
+    except OSError as error:
+        exits.say(f"{error.filename or 'a file'} can't be used: {error.strerror}")
+        return exits.NO_FOLDER
+
+
+if __name__ == "__main__":
+    sys.exit(main(sys.argv[1:]))

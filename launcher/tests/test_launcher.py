@@ -1,0 +1,356 @@
+#!/usr/bin/env python3
+"""Tests of `./streams` and launcher/ over a small repository, with a stub for `rt`."""
+import os
+import pathlib
+import re
+import select
+import shutil
+import signal
+import subprocess
+import sys
+import tempfile
+import time
+import unittest
+from unittest import mock
+
+ROOT = pathlib.Path(__file__).resolve().parent.parent.parent
+STUBS = ROOT / "launcher" / "tests"
+NOBODY = 65534
+
+
+class Launcher(unittest.TestCase):
+    def setUp(self):
+        self.folder = pathlib.Path(tempfile.mkdtemp())
+        self.addCleanup(shutil.rmtree, self.folder, ignore_errors=True)
+        self.folder.chmod(0o777)
+        self.top, self.stub, self.bin, self.tmp = (self.folder / name for name in ("top", "stub", "bin", "tmp"))
+        for path in (self.stub, self.bin, self.tmp):
+            path.mkdir()
+            path.chmod(0o777)
+        shutil.copytree(ROOT / "launcher", self.top / "launcher")
+        shutil.copy(ROOT / "streams", self.top)
+        for crate in ("streams", "low", "above"):
+            source = self.top / "crates" / crate / "src"
+            source.mkdir(parents=True)
+            (source / "lib.rt").write_text(f"//! {crate}\n")
+        (self.top / "crates.txt").write_text("low: bytes\nstreams may_wait=1: low\nabove: low\n")
+        (self.top / "HANDLES").write_text("Handles allowed: none.\n")
+        (self.bin / "rt").symlink_to(STUBS / "rt")
+        self.env = {"PATH": f"{self.bin}:{os.environ['PATH']}", "STUB": str(self.stub), "TMPDIR": str(self.tmp)}
+
+    def tearDown(self):
+        # A build that goes on by itself is left nothing of.
+        self.until(lambda: not self.living(), "a process is left")
+
+    def living(self):
+        """The processes that work for this test's repository."""
+        found = []
+        for at in pathlib.Path("/proc").iterdir():
+            if at.name.isdigit() and int(at.name) != os.getpid():
+                try:
+                    if f"STUB={self.stub}\0".encode() in (at / "environ").read_bytes() and (at / "stat").read_text().rsplit(")", 1)[1].split()[0] != "Z":
+                        found.append(int(at.name))
+                except OSError:
+                    pass
+        return found
+
+    def until(self, holds, why, seconds=20):
+        end = time.monotonic() + seconds
+        while not holds():
+            self.assertLess(time.monotonic(), end, why)
+            time.sleep(0.05)
+
+    def set(self, name, text=""):
+        (self.stub / name).write_text(text)
+
+    def calls(self, verb):
+        calls = self.stub / "calls"
+        return [line for line in (calls.read_text().splitlines() if calls.exists() else []) if line.split()[0] == verb]
+
+    def run_streams(self, *words, given=b"", program=None, **how):
+        how.setdefault("cwd", self.folder)
+        env = {**self.env, **how.pop("env", {})}
+        return subprocess.run([program or self.top / "streams", *words], input=given, capture_output=True, env=env, timeout=60, **how)
+
+    def built(self):
+        """Has the program built."""
+        self.assertEqual(self.run_streams("run", given=b"x", env={"STREAMS_PROVED": "1"}).stdout, b"x")
+
+    def assert_ended(self, ran, status, words):
+        """Whether the launcher said why it ended, in one line of these words, and nothing else."""
+        self.assertEqual((ran.returncode, ran.stdout), (status, b""), ran.stderr)
+        said = ran.stderr.decode()
+        self.assertRegex(said, words)
+        self.assertNotIn("Traceback", said)
+        return said
+
+    # A first answer.
+
+    def test_a_small_job_is_answered_while_the_proof_goes_on(self):
+        self.set("ci_seconds", "3")
+        ran = self.run_streams("run", given=b"hello\n")
+        self.assertEqual((ran.returncode, ran.stdout), (0, b"hello\n"), ran.stderr)
+        line = ran.stderr.decode().splitlines()[-1]
+        for word in ("isn't proved yet", "accesses, sums and unwraps", "contracts", "The proof goes on", "build.log"):
+            self.assertIn(word, line)
+        self.assertFalse((self.top / "crates/streams/out/streams").exists())
+        self.until((self.top / "crates/streams/out/sources.sum").exists, "the build goes on")
+        ran = self.run_streams("run", given=b"again\n")
+        self.assertEqual((ran.returncode, ran.stdout, ran.stderr), (0, b"again\n", b""))
+
+    def test_an_answer_has_the_status_and_the_notes_of_the_program(self):
+        plan = self.folder / "a plan.toml"
+        plan.write_text("plan\n")
+        ran = self.run_streams("run", "a plan.toml", given=b"input\n")
+        self.assertEqual((ran.returncode, ran.stdout), (1, b"plan\ninput\n"), ran.stderr)
+        self.assertEqual(ran.stderr.decode().splitlines()[-1], "stage 1 code 1 place 0")
+
+    def test_a_missing_file_is_missing_for_an_answer_too(self):
+        for name in ("stdin", "none.toml", "."):
+            ran = self.run_streams("check", name)
+            self.assertEqual((ran.returncode, ran.stdout), (9, b""), ran.stderr)
+            self.assertTrue(ran.stderr.endswith(b"load fault\n"))
+
+    def test_words_that_are_no_command_need_no_input(self):
+        end, to = os.pipe()
+        self.addCleanup(os.close, to)
+        with open(end) as pipe:
+            ran = subprocess.run([self.top / "streams", "what"], stdin=pipe, capture_output=True, env=self.env, timeout=60)
+        self.assertEqual((ran.returncode, ran.stdout), (2, b""), ran.stderr)
+        self.assertTrue(ran.stderr.endswith(b"\nusage\n"))
+
+    def test_an_answer_into_a_full_device_is_a_write_fault(self):
+        with open("/dev/full", "wb") as full:
+            ran = subprocess.run([self.top / "streams", "run"], input=b"x", stdout=full, stderr=subprocess.PIPE, env=self.env, timeout=60)
+        self.assertEqual(ran.returncode, 5, ran.stderr)
+        self.assertTrue(ran.stderr.endswith(b"\nwrite fault\n"))
+
+    def test_a_file_is_left_behind_what_was_answered(self):
+        (self.folder / "in").write_bytes(b"some bytes")
+        with open(self.folder / "in", "rb") as given:
+            given.seek(5)
+            ran = subprocess.run([self.top / "streams", "run"], stdin=given, capture_output=True, env=self.env, timeout=60)
+            self.assertEqual((ran.stdout, os.lseek(given.fileno(), 0, os.SEEK_CUR)), (b"bytes", 10))
+
+    # Jobs that wait for the proved program.
+
+    def test_where_there_is_no_answer_the_input_is_kept(self):
+        self.set("no_answer")
+        ran = self.run_streams("run", given=b"kept\n")
+        self.assertEqual((ran.returncode, ran.stdout), (0, b"kept\n"), ran.stderr)
+        self.assertIn(b"waits for the proved program", ran.stderr)
+        self.assertEqual(len(self.calls("ci")), 1)
+
+    def test_input_that_goes_on_is_kept_and_goes_on(self):
+        asked = subprocess.Popen([self.top / "streams", "run"], stdin=subprocess.PIPE, stdout=subprocess.PIPE, stderr=subprocess.PIPE, env=self.env)
+        asked.stdin.write(b"first\n")
+        asked.stdin.flush()
+        self.assertTrue(select.select([asked.stdout], [], [], 20)[0])
+        self.assertEqual(asked.stdout.readline(), b"first\n")
+        # From here on it is the proved program that answers, line by line.
+        asked.stdin.write(b"second\n")
+        asked.stdin.flush()
+        self.assertEqual(asked.stdout.readline(), b"second\n")
+        out, said = asked.communicate(b"last\n", timeout=20)
+        self.assertEqual((asked.returncode, out), (0, b"last\n"), said)
+        self.assertEqual(self.calls("try"), [])
+
+    def test_input_of_more_than_64_mib_is_kept(self):
+        much = bytes(range(256)) * (65 << 12)
+        ran = self.run_streams("run", given=much)
+        self.assertEqual(ran.returncode, 0, ran.stderr)
+        self.assertTrue(ran.stdout == much)
+        self.assertEqual(self.calls("try"), [])
+
+    def test_a_reader_that_is_done_leaves_no_process(self):
+        asked = subprocess.Popen([self.top / "streams", "what", "now"], stdin=subprocess.PIPE, stdout=subprocess.PIPE, stderr=subprocess.PIPE, env=self.env)
+        self.assertEqual(asked.wait(20), 2)
+        asked.stdin.close()
+        asked.stdout.close()
+        asked.stderr.close()
+
+    def test_a_closed_input_stays_closed(self):
+        ran = subprocess.run(["sh", "-c", 'exec "$0" run <&-', self.top / "streams"], capture_output=True, env=self.env, timeout=60)
+        self.assertEqual((ran.returncode, ran.stdout), (1, b""), ran.stderr)
+        self.assertIn(b"Bad file descriptor", ran.stderr)
+
+    # Builds.
+
+    def test_with_the_variable_set_a_job_waits_for_the_proof(self):
+        self.set("ci_seconds", "1")
+        ran = self.run_streams("run", given=b"x", env={"STREAMS_PROVED": "1"})
+        self.assertEqual((ran.returncode, ran.stdout), (0, b"x"), ran.stderr)
+        self.assertEqual(self.calls("try"), [])
+        self.assertRegex(ran.stderr.decode(), r"low proved: 50 % of the work, 0 min 0\d s, about 0 min \d\d s left")
+        self.assertEqual(list(self.tmp.iterdir()), [])
+
+    def test_two_at_once_prove_once(self):
+        self.set("ci_seconds", "2")
+        asked = [
+            subprocess.Popen([self.top / "streams", "run"], stdin=subprocess.DEVNULL, stdout=subprocess.PIPE, stderr=subprocess.PIPE, env={**self.env, "STREAMS_PROVED": "1"})
+            for _ in range(3)
+        ]
+        for it in asked:
+            _, said = it.communicate(timeout=60)
+            self.assertEqual(it.returncode, 0, said)
+        self.assertEqual(len(self.calls("ci")), 1)
+
+    def test_a_build_that_is_ended_leaves_nothing_and_can_be_started_again(self):
+        self.set("ci_seconds", "60")
+        for number, how in ((signal.SIGINT, {}), (signal.SIGTERM, {}), (signal.SIGHUP, {})):
+            asked = subprocess.Popen(
+                [self.top / "streams", "run"], stdin=subprocess.DEVNULL, stdout=subprocess.PIPE, stderr=subprocess.PIPE, env={**self.env, "STREAMS_PROVED": "1"}, **how
+            )
+            before = len(self.calls("ci"))
+            self.until(lambda: len(self.calls("ci")) > before, "rt is at work")
+            asked.send_signal(number)
+            _, said = asked.communicate(timeout=20)
+            self.assertEqual(asked.returncode, 75, said)
+            self.assertNotIn(b"Traceback", said)
+            self.until(lambda: not self.living(), "a process is left")
+            self.assertEqual(list(self.tmp.iterdir()), [])
+        self.set("ci_seconds", "0")
+        self.built()
+
+    def test_a_killed_build_leaves_no_process(self):
+        self.set("ci_seconds", "60")
+        asked = subprocess.Popen([self.top / "streams", "run"], stdin=subprocess.DEVNULL, stdout=subprocess.PIPE, stderr=subprocess.PIPE, env={**self.env, "STREAMS_PROVED": "1"})
+        self.until(lambda: self.calls("ci"), "rt is at work")
+        asked.kill()
+        asked.communicate(timeout=20)
+        self.until(lambda: not self.living(), "a process is left")
+
+    def test_a_build_that_goes_on_by_itself_can_be_ended(self):
+        self.set("ci_seconds", "60")
+        self.assertEqual(self.run_streams("run", given=b"x").stdout, b"x")
+        self.until(lambda: self.calls("ci"), "rt is at work")
+        os.kill(int((self.top / "crates/streams/out/build.lock").read_text()), signal.SIGTERM)
+        self.until(lambda: not self.living(), "a process is left")
+        self.assertIn("was ended before it was done", (self.top / "crates/streams/out/build.log").read_text())
+
+    def test_ctrl_c_while_an_answer_is_made(self):
+        self.set("ci_seconds", "3")
+        asked = subprocess.Popen([self.top / "streams", "run"], stdin=subprocess.PIPE, stdout=subprocess.PIPE, stderr=subprocess.PIPE, env=self.env)
+        self.until(lambda: self.calls("ci"), "the build is at work")
+        asked.send_signal(signal.SIGINT)
+        _, said = asked.communicate(timeout=20)
+        self.assertEqual(asked.returncode, -signal.SIGINT, said)
+        self.assertNotIn(b"Traceback", said)
+
+    def test_a_proof_that_fails(self):
+        self.set("ci_status", "1")
+        ran = self.run_streams("run", given=b"x", env={"STREAMS_PROVED": "1"})
+        said = self.assert_ended(ran, 70, "a crate could not be proved")
+        self.assertIn("what rt said", said)
+        self.set("no_answer")
+        said = self.assert_ended(self.run_streams("run", given=b"x"), 70, "a crate could not be proved")
+        self.assertIn("build.log", said)
+
+    # What is older than its sources, and what isn't.
+
+    def test_what_an_editor_leaves_is_no_source(self):
+        self.built()
+        ahead = time.time() + 100
+        for name in (".lib.rt.swp", ".#lib.rt", "lib.rt~", "notes.txt"):
+            path = self.top / "crates/low/src" / name
+            path.write_text("x")
+            os.utime(path, (ahead, ahead))
+        ran = self.run_streams("run", given=b"x")
+        self.assertEqual((ran.returncode, ran.stdout, ran.stderr), (0, b"x", b""))
+        self.assertEqual(len(self.calls("ci")), 1)
+
+    def test_a_source_that_was_only_touched_or_is_not_the_programs(self):
+        self.built()
+        ahead = time.time() + 100
+        os.utime(self.top / "crates/low/src/lib.rt", (ahead, ahead))
+        (self.top / "crates/above/src/lib.rt").write_text("//! changed\n")
+        ran = self.run_streams("run", given=b"x")
+        self.assertEqual((ran.returncode, ran.stdout, ran.stderr), (0, b"x", b""))
+        self.assertEqual(len(self.calls("ci")), 1)
+
+    def test_a_source_that_changed(self):
+        self.built()
+        time.sleep(0.05)
+        (self.top / "crates/low/src/lib.rt").write_text("//! changed\n")
+        ran = self.run_streams("run", given=b"x", env={"STREAMS_PROVED": "1"})
+        self.assertEqual((ran.returncode, ran.stdout), (0, b"x"))
+        self.assertIn(b"older than its sources", ran.stderr)
+        self.assertEqual(len(self.calls("ci")), 2)
+
+    # Where it stands and what it needs.
+
+    def test_through_a_link_in_a_folder_with_a_launcher_of_its_own(self):
+        self.built()
+        other = self.folder / "other"
+        (other / "launcher").mkdir(parents=True)
+        (other / "launcher/start.py").write_text("print('the other')\n")
+        (other / "streams").symlink_to(self.top / "streams")
+        ran = self.run_streams("run", given=b"x", program=other / "streams")
+        self.assertEqual((ran.returncode, ran.stdout, ran.stderr), (0, b"x", b""))
+
+    def test_a_folder_whose_name_begins_with_a_hyphen(self):
+        self.built()
+        self.top.rename(self.folder / "-x")
+        ran = self.run_streams("run", given=b"x", program="-x/streams")
+        self.assertEqual((ran.returncode, ran.stdout, ran.stderr), (0, b"x", b""))
+        self.set("version", "none")
+        self.run_streams("run", given=b"x", program="-x/streams")
+
+    def test_help(self):
+        ran = self.run_streams("--help")
+        self.assertEqual((ran.returncode, ran.stderr), (0, b""))
+        for word in ("run FILE", "check FILE", "script", "README.md"):
+            self.assertIn(word, ran.stdout.decode())
+        self.assertEqual(self.run_streams("--help", "me").returncode, 2)
+
+    def test_without_rt(self):
+        (self.bin / "rt").unlink()
+        tools = self.folder / "tools"
+        tools.mkdir()
+        for name in ("sh", "python3", "readlink", "dirname", "find", "head", "cat"):
+            (tools / name).symlink_to(os.path.realpath(shutil.which(name)))
+        env = {"PATH": str(tools)}
+        self.assert_ended(self.run_streams("run", env=env), 72, "^streams: the command rt, .* isn't found: .*\n$")
+        (tools / "python3").unlink()
+        self.assert_ended(self.run_streams("run", env=env), 72, "^streams: .* python3, .* isn't found: install it\n$")
+
+    def test_without_rt_a_program_that_is_built_runs(self):
+        self.built()
+        (self.bin / "rt").unlink()
+        self.assertEqual(self.run_streams("run", given=b"x").stdout, b"x")
+        time.sleep(0.05)
+        (self.top / "crates/low/src/lib.rt").write_text("//! changed\n")
+        if shutil.which("rt") is None:
+            said = self.assert_ended(self.run_streams("run"), 72, "isn't found")
+            self.assertIn("older than its sources", said)
+
+    def test_another_kit(self):
+        self.set("version", "rattle-kit-99 logic 0")
+        self.assert_ended(self.run_streams("run"), 78, "^streams: rt is of rattle-kit-99 logic 0, and this is proved with .*\n$")
+        self.assertEqual(self.run_streams("run", given=b"x", env={"STREAMS_KIT": "any"}).stdout, b"x")
+
+    def test_folders_that_cannot_be_written(self):
+        as_nobody = {"user": NOBODY} if os.geteuid() == 0 else {}
+        os.chmod(self.top, 0o755)
+        if not as_nobody:
+            os.chmod(self.top / "crates/streams", 0o555)
+        self.assert_ended(self.run_streams("run", **as_nobody), 73, "^streams: the program is built in .*/out, which can't be written: .*\n$")
+        os.chmod(self.top / "crates/streams", 0o777)
+        self.tmp.chmod(0o555)
+        ran = self.run_streams("run", env={"STREAMS_PROVED": "1"}, **as_nobody)
+        said = self.assert_ended(ran, 73, "set TMPDIR")
+        self.assertEqual(len(re.findall("^streams: ", said, re.MULTILINE)), 2, said)
+
+    def test_a_disk_without_room(self):
+        sys.path.insert(0, str(ROOT / "launcher"))
+        import build
+        import exits
+
+        with mock.patch("shutil.disk_usage", return_value=mock.Mock(free=100 << 20)), self.assertRaises(exits.Stop) as stopped, build.room():
+            pass
+        self.assertEqual(stopped.exception.status, 74)
+        self.assertRegex(str(stopped.exception), "100 MiB free.*make room, or set TMPDIR")
+
+
+if __name__ == "__main__":
+    unittest.main()
