@@ -20,7 +20,7 @@ awk -v bytes="$((mebibytes * 1048576))" 'BEGIN {
     }
 }' | head -c "$((mebibytes * 1048576))" >"$work/in"
 lines=$(wc -l <"$work/in")
-printf 'x' | "$root/streams" run >/dev/null
+printf 'x' | STREAMS_PROVED=1 "$root/streams" run >/dev/null
 program=$root/crates/streams/out/streams
 . "$root/bench/measure.sh"
 if command -v node >/dev/null 2>&1; then has_node=yes; else has_node=; fi

@@ -7,7 +7,7 @@ set -eu
 root=$(CDPATH='' cd -- "$(dirname -- "$0")/.." && pwd)
 work=$(mktemp -d)
 trap 'rm -rf "$work"' EXIT
-printf 'x' | "$root/streams" run >/dev/null
+printf 'x' | STREAMS_PROVED=1 "$root/streams" run >/dev/null
 program=$root/crates/streams/out/streams
 
 # A script of so many lines: reads of one stream.
