@@ -98,11 +98,11 @@ fn answer(
     alloc: Global,
     output: &mut impl Write,
     given: &mut usize,
-    call: HostCall,
+    call: &HostCall,
 ) -> Result<(), Failed> {
     match call {
         HostCall::Pull(source) => {
-            give(realm, alloc, source, *given)?;
+            give(realm, alloc, *source, *given)?;
             *given = given.saturating_add(1);
         }
         HostCall::Write(_, Value::Bytes(chunk)) => output.write_all(chunk.as_slice())?,
@@ -116,13 +116,12 @@ fn go_on(realm: &mut Realm, alloc: Global, output: &mut impl Write) -> Result<()
     let mut given = 0;
     for _ in 0..MOST_EVENTS {
         realm.work(MOST_JOBS)?;
-        match realm.next_event() {
-            Some(Event::Host { id, call }) => {
-                answer(realm, alloc, output, &mut given, call)?;
-                realm.settle_done(id)?;
-            }
-            Some(_) => {}
-            None => return Ok(()),
+        let Some(event) = realm.next_event() else {
+            return Ok(());
+        };
+        if let Event::Host { id, call } = &event {
+            answer(realm, alloc, output, &mut given, call)?;
+            realm.settle_done(*id)?;
         }
     }
     Ok(())
