@@ -1,7 +1,9 @@
 //! An example of a run: a pipeline over bytes in memory, which cuts them into lines and numbers these.
 #![tactic(auto)]
 
+use std::alloc::Global;
 use std::io::{self, Write};
+use std::sync::Wait;
 use ws_io::{MemSink, MemSource, Status};
 use ws_plan::{PlanRefused, read_plan};
 use ws_runner::run_nodes;
@@ -43,12 +45,25 @@ impl From<io::Error> for Failed {
     }
 }
 
+/// Runs the pipeline that a text says, over bytes in memory.
+fn run_text<R: Wait>(
+    rt: &R,
+    alloc: Global,
+    text: &[u8],
+    input: &mut MemSource,
+    output: &mut MemSink,
+) -> Result<Status, PlanRefused> {
+    match read_plan(alloc, text) {
+        Ok(plan) => Ok(run_nodes(rt, alloc, &plan, input, output)),
+        Err(why) => Err(why),
+    }
+}
+
 fn main(rt: HostRuntime) -> Result<(), Failed> {
     let alloc = rt.alloc();
-    let plan = read_plan(alloc, FILE.as_bytes())?;
     let mut input = MemSource::make(alloc, b"GET /a 200\nGET /b 404\n", &MOST, &[])?;
     let mut output = MemSink::make(alloc, 1000, &MOST, &[], &[])?;
-    match run_nodes(&rt, alloc, &plan, &mut input, &mut output) {
+    match run_text(&rt, alloc, FILE.as_bytes(), &mut input, &mut output)? {
         Status::Done => Ok(rt.stdout().write_all(output.got())?),
         _ => Err(Failed::Run),
     }

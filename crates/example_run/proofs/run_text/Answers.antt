@@ -1,0 +1,6 @@
+use Rattle.ws_cli.proofs.Loading.{accepted_read}
+use Rattle.example_run.proofs.run_text.Goals as goal
+
+-- a plan that was read is one that isn't refused
+pub run_nodes-requires : goal.run_nodes-requires
+run_nodes-requires g c = accepted_read c.args.text.now c.in-Ok.plan c.in-Ok.ensures
