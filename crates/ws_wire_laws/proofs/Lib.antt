@@ -1,0 +1,4 @@
+pub mod Keeps
+pub mod Two
+pub mod Numbered
+mod Worked

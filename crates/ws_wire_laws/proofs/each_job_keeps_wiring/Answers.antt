@@ -1,0 +1,5 @@
+use Rattle.ws_wire_laws.proofs.Keeps.{each_job_keeps_wiring}
+use Rattle.ws_wire_laws.proofs.each_job_keeps_wiring.Goals as goal
+
+pub returns : goal.returns
+returns c = each_job_keeps_wiring
