@@ -19,9 +19,10 @@ use Rattle.ws_host_laws.proofs.Flushed.{each_flush_was_settled}
 use Rattle.ws_laws.proofs.Tables.{eq_numbers}
 use Rattle.ws_link_laws.specs.Link.{OfTransform, silence, ear_by, half_enters}
 use Rattle.ws_link_laws.specs.Sound.{IsHosts}
-use Rattle.ws_chain_laws.specs.Chain.{Origin, source_of, dest_of, transform_of, IsChain}
+use Rattle.ws_chain_laws.specs.Chain.{Origin, Target, source_of, dest_of, transform_of, IsChain}
 use Rattle.ws_chain_laws.specs.Laws.{next_enters}
 use Rattle.ws_chain_laws.specs.Outcomes.{Flushes, BringsNothing, BringsTheEnd, EachEndWasFlushed}
+use Rattle.ws_chain_laws.proofs.Links.{link-at, takes-at}
 use Rattle.ws_chain_laws.proofs.Numbers.{unlike}
 
 source-none : (o : Option Job) → next_enters 0 o ≡ silence
@@ -37,7 +38,7 @@ kind : (job : Job) → Kind job
 kind (Reaction (TransformFlushed t p) (Ok v) derived) = Flush_ t p v derived refl
 kind job = Other (λ t. refl)
 
-module _ (origin : Origin) (n : ℕ) (entries : List Entry) (c : IsChain origin n (run entries empty)) (k : ℕ) (less : suc k ≤ n) where
+module _ (origin : Origin) (target : Target) (n : ℕ) (entries : List Entry) (c : IsChain origin target n (run entries empty)) (k : ℕ) (less : suc k ≤ n) where
   abbrev s : Slots
   s = run entries empty
 
@@ -51,13 +52,13 @@ module _ (origin : Origin) (n : ℕ) (entries : List Entry) (c : IsChain origin 
   unlast = unlike k n (λ e. omega (arith, e, less))
 
   owner : owner_at (dest_of k) s ≡ HalfOf t
-  owner = c.takes k below ∙ rw unlast refl
+  owner = takes-at origin target n s c k below ∙ rw unlast refl
 
   hosts-kind : (transform_at t s).kind ≡ HostKind
-  hosts-kind = subst (λ (o : Owner). IsHosts s o) owner (c.links k below).sink_owner
+  hosts-kind = subst (λ (o : Owner). IsHosts s o) owner (link-at origin target n s c k below).link.sink_owner
 
   ear : OfTransform t (transform_at t s).readable ≡ OfTransform t (source_of (suc k))
-  ear = sym (ap (λ (o : Owner). ear_by (dest_of k) s o) owner) ∙ (c.hears k below ∙ rw unlast refl)
+  ear = sym (ap (λ (o : Owner). ear_by (dest_of k) s o) owner) ∙ ((link-at origin target n s c k below).hears ∙ rw unlast refl)
 
   half : (transform_at t s).readable ≡ source_of (suc k)
   half = let e = ear in cc
@@ -80,7 +81,7 @@ module _ (origin : Origin) (n : ℕ) (entries : List Entry) (c : IsChain origin 
       by-kind (Other f) = BringsNothing (ap (next_enters (suc k)) e ∙ f t)
 
 pub each_end_was_flushed : EachEndWasFlushed
-each_end_was_flushed origin n entries c = record {
+each_end_was_flushed origin target n entries c = record {
   source = source-none (next_job (run entries empty).promises);
-  half = λ k less. brought origin n entries c k less (next_job (run entries empty).promises) refl;
+  half = λ k less. brought origin target n entries c k less (next_job (run entries empty).promises) refl;
 }

@@ -1,47 +1,38 @@
 -- A chain over calls, jobs and events that leave its links alone.
-use Rattle.std.proofs.Common.{◌≡◌, ℕ, zero, suc, ◌≤◌, true, List, [], ◌∷◌, Option, Some, None, refl, subst, ◌∙◌}
+use Rattle.std.proofs.Common.{◌≡◌, ℕ, zero, suc, ◌≤◌, true, Option, Some, None, refl, subst}
 use Rattle.ws_value.specs.declared.value.Value.{Value}
 use Rattle.ws_steps.specs.declared.calls.Event.{Event}
 use Rattle.ws_steps.specs.declared.promises.Job.{Job}
 use Rattle.ws_steps.specs.Promises.{next_job}
-use Rattle.ws_steps.specs.Run.{Entry, Called, Worked, Heard, run, after_call, after_job, after_event, first_event}
-use Rattle.ws_steps.specs.Slots.{Slots}
+use Rattle.ws_steps.specs.Run.{run, after_call, after_job, after_event, first_event}
 use Rattle.ws_flow.specs.Told.{Told, then_told, IsShortOf}
-use Rattle.ws_flow.proofs.Told.{short_refl, short_same}
 use Rattle.ws_link_laws.specs.Link as link
-use Rattle.ws_link_laws.specs.Link.{Giver, Ear, ear_at, heard_of}
+use Rattle.ws_link_laws.specs.Link.{leaves}
 use Rattle.ws_link_laws.specs.Laws.{all_leave}
-use Rattle.ws_link_laws.proofs.HasRoom.{each_link_has_room}
-use Rattle.ws_link_laws.proofs.Keeps.{each_link_keeps}
-use Rattle.ws_link_laws.proofs.Owners.{giver-stays, sink-stays, ear-stays}
-use Rattle.ws_link_laws.proofs.Steps.{link-called, link-worked, link-heard, link-unheard}
-use Rattle.ws_chain_laws.specs.Chain.{Origin, FromChunks, FromBytes, source_of, dest_of, link_of, giver, behind_at, IsChain}
+use Rattle.ws_link_laws.specs.Room.{taken_places}
+use Rattle.ws_wire_laws.specs.Wire.{IsJoint, Each, call_on}
+use Rattle.ws_wire_laws.specs.Laws as wire
+use Rattle.ws_wire_laws.proofs.Keeps.{each-map, each_wiring_keeps, each_call_keeps_wiring, each_job_keeps_wiring, each_event_keeps_wiring, each_wiring_has_room}
+use Rattle.ws_chain_laws.specs.Chain.{Origin, FromChunks, FromBytes, FromPort, Target, giver, joint_of, links_of, behind_at}
 use Rattle.ws_chain_laws.specs.Laws.{EachChainKeeps, EachCallKeepsChain, next_enters, EachJobKeepsChain, next_heard, EachEventKeepsChain, EachChainHasRoom}
-
--- it stays a chain
-pub chain-stays : (origin : Origin) (n : ℕ) (s : Slots) (entries : List Entry) → IsChain origin n s → ((k : ℕ) → k ≤ n → all_leave (source_of k) (dest_of k) entries ≡ true) → IsChain origin n (run entries s)
-chain-stays origin n s entries c e = record {
-  links = λ k l. (each_link_keeps (source_of k) (dest_of k) (link_of k) s entries (c.links k l) (e k l)).link;
-  room = λ k l. (each_link_has_room (source_of k) (dest_of k) (link_of k) s entries (c.links k l) (c.room k l) (e k l)).room;
-  gives = λ k l. giver-stays (source_of k) entries s (c.links k l).source ∙ c.gives k l;
-  takes = λ k l. sink-stays (dest_of k) entries s (c.links k l).sink ∙ c.takes k l;
-  hears = λ k l. ear-stays (dest_of k) entries s (c.links k l).sink (c.links k l).sink_owner ∙ c.hears k l;
-}
+use Rattle.ws_chain_laws.proofs.Links.{each-at, each-of}
 
 pub each_chain_keeps : EachChainKeeps
-each_chain_keeps origin n s entries c e = record {
-  chain = chain-stays origin n s entries c e;
-  short = λ k l. (each_link_keeps (source_of k) (dest_of k) (link_of k) s entries (c.links k l) (e k l)).short;
-}
+each_chain_keeps origin target n s entries c e =
+    let w : Each (wire.KeepsJoint s entries) (links_of origin target n) = each_wiring_keeps (links_of origin target n) s entries c (each-of origin target (λ x. all_leave x.from x.into entries ≡ true) n e) in
+    record {
+      chain = each-map (wire.KeepsJoint s entries) (λ x. IsJoint x (run entries s)) (λ x k. k.joint) (links_of origin target n) w;
+      short = λ k l. (each-at origin target (wire.KeepsJoint s entries) n w k l).short;
+    }
 
 -- one call
 pub each_call_keeps_chain : EachCallKeepsChain
-each_call_keeps_chain origin n s c h e = record {
-  chain = chain-stays origin n s (Called c ∷ []) h (λ k l. rw (e k l) refl);
-  short = λ k l.
-      subst (λ (g : Giver). IsShortOf (behind_at k (after_call c s)) (then_told (behind_at k s) (link.enters g (source_of k) c))) (h.gives k l)
-      (link-called (source_of k) (dest_of k) (link_of k) s c (h.links k l) (e k l)).1;
-}
+each_call_keeps_chain origin target n s c h e =
+    let w : Each (wire.KeepsBehind s (after_call c s) (λ x. call_on x c)) (links_of origin target n) = each_call_keeps_wiring (links_of origin target n) s c h (each-of origin target (λ x. leaves x.from x.into c ≡ true) n e) in
+    record {
+      chain = each-map (wire.KeepsBehind s (after_call c s) (λ x. call_on x c)) (λ x. IsJoint x (after_call c s)) (λ x k. k.joint) (links_of origin target n) w;
+      short = λ k l. (each-at origin target (wire.KeepsBehind s (after_call c s) (λ x. call_on x c)) n w k l).short;
+    }
 
 -- one job
 
@@ -49,32 +40,35 @@ next-same : (origin : Origin) (k : ℕ) (o : Option Job) → link.next_enters (g
 next-same origin k None = refl
 next-same FromChunks zero (Some job) = refl
 next-same FromBytes zero (Some job) = refl
+next-same FromPort zero (Some job) = refl
 next-same origin (suc k) (Some job) = refl
 
 pub each_job_keeps_chain : EachJobKeepsChain
-each_job_keeps_chain origin n s h = record {
-  chain = chain-stays origin n s (Worked ∷ []) h (λ k l. refl);
-  short = λ k l.
-      let a = link-worked (source_of k) (dest_of k) (link_of k) s (h.links k l) in
-      let b = subst (λ (g : Giver). IsShortOf (behind_at k (after_job s)) (then_told (behind_at k s) (link.next_enters g (next_job s.promises)))) (h.gives k l) a.1 in
-      subst (λ (t : Told Value). IsShortOf (behind_at k (after_job s)) (then_told (behind_at k s) t)) (next-same origin k (next_job s.promises)) b;
-}
+each_job_keeps_chain origin target n s h =
+    let o : Option Job = next_job s.promises in
+    let w : Each (wire.KeepsBehind s (after_job s) (λ x. link.next_enters x.gives o)) (links_of origin target n) = each_job_keeps_wiring (links_of origin target n) s h in
+    record {
+      chain = each-map (wire.KeepsBehind s (after_job s) (λ x. link.next_enters x.gives o)) (λ x. IsJoint x (after_job s)) (λ x k. k.joint) (links_of origin target n) w;
+      short = λ k l.
+          subst (λ (t : Told Value). IsShortOf (behind_at k (after_job s)) (then_told (behind_at k s) t)) (next-same origin k o)
+          (each-at origin target (wire.KeepsBehind s (after_job s) (λ x. link.next_enters x.gives o)) n w k l).short;
+    }
 
 -- one event
 
-heard-short : (origin : Origin) (n : ℕ) (s : Slots) (k : ℕ) → k ≤ n → IsChain origin n s → (o : Option Event) → first_event s.promises.events ≡ o → IsShortOf (then_told (next_heard n k o) (behind_at k (after_event s))) (behind_at k s)
-heard-short origin n s k l h None f =
-    let a = (link-unheard (source_of k) (dest_of k) (link_of k) s f (h.links k l)).1 in
-    short_same (behind_at k (after_event s)) (behind_at k s) (behind_at k s) a (short_refl (behind_at k s))
-heard-short origin n s k l h (Some e) f =
-    subst (λ (w : Ear). IsShortOf (then_told (heard_of w e) (behind_at k (after_event s))) (behind_at k s)) (h.hears k l)
-    (link-heard (source_of k) (dest_of k) (link_of k) s e f (h.links k l)).1
+next-on : (origin : Origin) (target : Target) (n k : ℕ) (o : Option Event) → wire.next_on (joint_of origin target n k) o ≡ next_heard origin target n k o
+next-on origin target n k None = refl
+next-on origin target n k (Some e) = refl
 
 pub each_event_keeps_chain : EachEventKeepsChain
-each_event_keeps_chain origin n s h = record {
-  chain = chain-stays origin n s (Heard ∷ []) h (λ k l. refl);
-  short = λ k l. heard-short origin n s k l h (first_event s.promises.events) refl;
-}
+each_event_keeps_chain origin target n s h =
+    let w : Each (wire.KeepsHeard s) (links_of origin target n) = each_event_keeps_wiring (links_of origin target n) s h in
+    record {
+      chain = each-map (wire.KeepsHeard s) (λ x. IsJoint x (after_event s)) (λ x k. k.joint) (links_of origin target n) w;
+      short = λ k l.
+          subst (λ (t : Told Value). IsShortOf (then_told t (behind_at k (after_event s))) (behind_at k s)) (next-on origin target n k (first_event s.promises.events))
+          (each-at origin target (wire.KeepsHeard s) n w k l).short;
+    }
 
 pub each_chain_has_room : EachChainHasRoom
-each_chain_has_room origin n s c k l = (each_link_has_room (source_of k) (dest_of k) (link_of k) s [] (c.links k l) (c.room k l) refl).one
+each_chain_has_room origin target n s c k l = each-at origin target (λ x. taken_places x.from x.into x.pipe s ≤ 1) n (each_wiring_has_room (links_of origin target n) s c) k l

@@ -1,10 +1,17 @@
-pub mod Keeps
 mod Lists
 mod Numbers
-mod Young
+pub mod Links
+pub mod Keeps
+pub mod Young
+pub mod Pairs
+mod Outlets
+pub mod Sources
+pub mod Stages
+pub mod Targets
+pub mod Wirings
 mod Firsts
-mod Making
-mod Ready
+pub mod Readied
+pub mod Ready
 pub mod Begins
 pub mod Nodes
 pub mod Outcomes

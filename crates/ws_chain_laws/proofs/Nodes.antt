@@ -2,18 +2,19 @@
 use Rattle.std.proofs.Common.{◌≡◌, ℕ, zero, suc, ◌+◌, ◌*◌, ◌≤◌, nat_eq, not, Bool, true, false, if◌then◌else◌, [], ◌∷◌, refl, ap, ◌∙◌, arith}
 use Rattle.ws_value.specs.declared.ids.StreamId.{StreamId}
 use Rattle.ws_value.specs.declared.value.Value.{Value}
-use Rattle.ws_steps.specs.declared.calls.Call.TheVariants.{Enqueue, Finish, Fail, Terminate, Trigger, Settle}
-use Rattle.ws_steps.specs.declared.calls.Event.TheVariants.{Post}
+use Rattle.ws_steps.specs.declared.calls.Call.TheVariants.{Enqueue, Finish, Fail, Terminate, Trigger, Deliver, Settle}
+use Rattle.ws_steps.specs.declared.calls.Event.{Event}
+use Rattle.ws_steps.specs.declared.calls.Event.TheVariants.{Host as HostCalled, Post}
+use Rattle.ws_value.specs.declared.ids.HostId.{HostId}
 use Rattle.ws_value.specs.declared.ids.PortId.{PortId}
 use Rattle.ws_value.specs.declared.value.Message.{Message}
-use Rattle.ws_steps.specs.declared.calls.HostCall.{HostCall}
 use Rattle.ws_steps.specs.declared.calls.HostCall.TheVariants.{Write, Close, Transform, Flush}
 use Rattle.ws_steps.specs.Histories.{is_same}
-use Rattle.ws_laws.proofs.Tables.{eq_numbers}
+use Rattle.ws_laws.proofs.Tables.{eq_numbers, is_same-refl}
 use Rattle.ws_flow.specs.Told.{Open, Closed, Told, told}
-use Rattle.ws_link_laws.specs.Link.{OfSink, OfTransform, silence, heard_call, lets_in}
-use Rattle.ws_chain_laws.specs.Chain.{Origin, FromChunks, FromBytes, giver, source_of, dest_of, transform_of, ear_of, call_enters, heard_at}
-use Rattle.ws_chain_laws.specs.Nodes.{only_at, EachNodesCallLeaves, EachNodesCallBrings, EachEventIsHeardAtOneLink}
+use Rattle.ws_link_laws.specs.Link.{OfTransform, silence, heard_of, heard_post, lets_in, is_end, is_port, delivered}
+use Rattle.ws_chain_laws.specs.Chain.{Origin, FromChunks, FromBytes, FromPort, Target, ToSink, ToPort, first_giver, last_ear, giver, source_of, dest_of, transform_of, call_enters, heard_at}
+use Rattle.ws_chain_laws.specs.Nodes.{only_at, finishes, by_sink, EachNodesCallLeaves, EachNodesCallBrings, EachEventIsHeardAtOneLink}
 use Rattle.ws_chain_laws.proofs.Numbers.{unlike, same_where}
 
 pub each_nodes_call_leaves : EachNodesCallLeaves
@@ -24,6 +25,7 @@ each_nodes_call_leaves n = record {
   terminate = λ i k l. refl;
   fail = λ m reason k l. ap not (unlike (2 * k + 1) (2 * m) (λ e. omega (arith, e)));
   trigger = λ a reason k l. refl;
+  deliver = λ c m k l. refl;
 }
 
 -- what they bring
@@ -55,15 +57,29 @@ enqueue-brings origin k m v = by (nat_eq k m) refl
         ap (λ (x : Bool). if x then lets_in (giver origin k) v else silence) (same-source k m) ∙ rw (e, is) refl
     by false e = ap (λ (x : Bool). if x then lets_in (giver origin k) v else silence) (same-source k m) ∙ rw e refl
 
-finish-brings : (origin : Origin) (k : ℕ) → call_enters origin k (Finish (source_of 0)) ≡ only_at 0 (told [] Closed) k
+finish-brings : (origin : Origin) (k : ℕ) → call_enters origin k (Finish (source_of 0)) ≡ only_at 0 (finishes origin) k
 finish-brings FromChunks zero = refl
 finish-brings FromBytes zero = refl
+finish-brings FromPort zero = refl
 finish-brings origin (suc k) = let u : nat_eq (suc k) 0 ≡ false = unlike (suc k) 0 (λ e. omega (arith, e)) in rw u refl
 
 terminate-brings : (origin : Origin) (k m : ℕ) → call_enters origin k (Terminate (source_of (suc m))) ≡ only_at (suc m) (told [] Closed) k
 terminate-brings FromChunks zero m = let u : nat_eq 0 (suc m) ≡ false = unlike 0 (suc m) (λ e. omega (arith, e)) in rw u refl
 terminate-brings FromBytes zero m = let u : nat_eq 0 (suc m) ≡ false = unlike 0 (suc m) (λ e. omega (arith, e)) in rw u refl
+terminate-brings FromPort zero m = let u : nat_eq 0 (suc m) ≡ false = unlike 0 (suc m) (λ e. omega (arith, e)) in rw u refl
 terminate-brings origin (suc k) m = choose (told [] Closed) (is_same (source_of (suc k)) (source_of (suc m))) (nat_eq (suc k) (suc m)) (same-source (suc k) (suc m))
+
+deliver-brings : (origin : Origin) (k : ℕ) (c : PortId) (m : Message) → is_end (first_giver origin) c ≡ true → call_enters origin k (Deliver c m) ≡ only_at 0 (delivered m) k
+deliver-brings FromChunks k c m e = cc
+deliver-brings FromBytes k c m e = cc
+deliver-brings FromPort zero c m e = rw e refl
+deliver-brings FromPort (suc k) c m e = let u : nat_eq (suc k) 0 ≡ false = unlike (suc k) 0 (λ e. omega (arith, e)) in rw u refl
+
+deliver-none : (origin : Origin) (k : ℕ) (c : PortId) (m : Message) → is_end (first_giver origin) c ≡ false → call_enters origin k (Deliver c m) ≡ silence
+deliver-none FromChunks zero c m e = refl
+deliver-none FromBytes zero c m e = refl
+deliver-none FromPort zero c m e = rw e refl
+deliver-none origin (suc k) c m e = refl
 
 pub each_nodes_call_brings : EachNodesCallBrings
 each_nodes_call_brings origin k = record {
@@ -73,44 +89,85 @@ each_nodes_call_brings origin k = record {
   terminate = terminate-brings origin k;
   fail = fail-brings origin k;
   trigger = trigger-brings origin k;
+  deliver = deliver-brings origin k;
+  elsewhere = deliver-none origin k;
 }
 
 -- what the host hears
 
-module _ (n k : ℕ) (l : k ≤ n) where
-  -- by the sink, or by transform stream m
-  at-sink : (call : HostCall) (t : Told Value) → (heard_call (OfSink (dest_of k)) call ≡ (if nat_eq k n then t else silence)) → (heard_call (OfTransform (transform_of k) (source_of (suc k))) call ≡ silence) → heard_call (ear_of n k) call ≡ only_at n t k
-  at-sink call t f g = by (nat_eq k n) refl
+module _ (origin : Origin) (target : Target) (n k : ℕ) (l : k ≤ n) where
+  -- at the last link, or by transform stream m
+  at-last : (e : Event) (t : Told Value) → (k ≡ n → heard_of (last_ear origin target (dest_of k)) e ≡ t) → (heard_of (OfTransform (transform_of k) (source_of (suc k))) e ≡ silence)
+      → heard_at origin target n k e ≡ only_at n t k
+  at-last event t f g = by (nat_eq k n) refl
     where
-      by : (b : Bool) → nat_eq k n ≡ b → heard_call (ear_of n k) call ≡ only_at n t k
-      by true e = rw e (f ∙ rw e refl)
+      by : (b : Bool) → nat_eq k n ≡ b → heard_at origin target n k event ≡ only_at n t k
+      by true e = rw (e) (f (eq_numbers k n e))
       by false e = rw e g
 
-  at-half : (m : ℕ) (call : HostCall) (t : Told Value) → suc m ≤ n → (heard_call (OfSink (dest_of k)) call ≡ silence) → (heard_call (OfTransform (transform_of k) (source_of (suc k))) call ≡ only_at m t k) → heard_call (ear_of n k) call ≡ only_at m t k
-  at-half m call t less f g = by (nat_eq k n) refl
+  at-half : (m : ℕ) (event : Event) (t : Told Value) → suc m ≤ n → (heard_of (last_ear origin target (dest_of k)) event ≡ silence) → (heard_of (OfTransform (transform_of k) (source_of (suc k))) event ≡ only_at m t k)
+      → heard_at origin target n k event ≡ only_at m t k
+  at-half m event t less f g = by (nat_eq k n) refl
     where
-      by : (b : Bool) → nat_eq k n ≡ b → heard_call (ear_of n k) call ≡ only_at m t k
+      by : (b : Bool) → nat_eq k n ≡ b → heard_at origin target n k event ≡ only_at m t k
       by true e =
           let is = eq_numbers k n e in
           let u : nat_eq k m ≡ false = unlike k m (λ g. omega (arith, g, is, less)) in
           rw (e, u) f
       by false e = rw e g
 
-  same-dest : is_same (dest_of k) (dest_of n) ≡ nat_eq k n
-  same-dest = same_where (2 * k + 1) (2 * n + 1) k n (λ e. ap (λ (x : ℕ). 2 * x + 1) e) (λ e. omega (arith, e))
-
   same-half : (m : ℕ) → is_same (source_of (suc k)) (source_of (suc m)) ≡ nat_eq k m
   same-half m = same_where (2 * suc k) (2 * suc m) k m (λ e. ap (λ (x : ℕ). 2 * suc x) e) (λ e. omega (arith, e))
 
-no-post : (n k : ℕ) (c : PortId) (m : Message) → heard_at n k (Post c m) ≡ silence
-no-post n k c m = grind arith
+  -- nowhere
+  nowhere : (event : Event) → (heard_of (last_ear origin target (dest_of k)) event ≡ silence) → (heard_of (OfTransform (transform_of k) (source_of (suc k))) event ≡ silence) → heard_at origin target n k event ≡ silence
+  nowhere event f g = by (nat_eq k n) refl
+    where
+      by : (b : Bool) → nat_eq k n ≡ b → heard_at origin target n k event ≡ silence
+      by true e = rw e f
+      by false e = rw e g
+
+same-dest : (k n : ℕ) → k ≡ n → is_same (dest_of k) (dest_of n) ≡ true
+same-dest k n e = rw e (is_same-refl (dest_of n))
+
+sink-writes : (origin : Origin) (target : Target) (k n : ℕ) (id : HostId) (v : Value) → k ≡ n
+    → heard_of (last_ear origin target (dest_of k)) (HostCalled id (Write (dest_of n) v)) ≡ by_sink target (told (v ∷ []) Open)
+sink-writes origin ToSink k n id v e = rw (same-dest k n e) refl
+sink-writes origin ToPort k n id v e = refl
+
+sink-closes : (origin : Origin) (target : Target) (k n : ℕ) (id : HostId) → k ≡ n
+    → heard_of (last_ear origin target (dest_of k)) (HostCalled id (Close (dest_of n))) ≡ by_sink target (told [] Closed)
+sink-closes origin ToSink k n id e = rw (same-dest k n e) refl
+sink-closes origin ToPort k n id e = refl
+
+-- the ear of the last link hears nothing of transform streams, and no other event
+
+no-transform : (origin : Origin) (target : Target) (j i : StreamId) (id : HostId) (v : Value) → heard_of (last_ear origin target j) (HostCalled id (Transform i v)) ≡ silence
+no-transform origin ToSink j i id v = refl
+no-transform origin ToPort j i id v = refl
+
+no-flush : (origin : Origin) (target : Target) (j i : StreamId) (id : HostId) → heard_of (last_ear origin target j) (HostCalled id (Flush i)) ≡ silence
+no-flush origin ToSink j i id = refl
+no-flush origin ToPort j i id = refl
+
+posts : (origin : Origin) (target : Target) (j i : StreamId) (c : PortId) (m : Message) → is_port (last_ear origin target i) c ≡ true → heard_of (last_ear origin target j) (Post c m) ≡ heard_post m
+posts origin ToSink j i c m e = cc
+posts origin ToPort j i c m e = rw e refl
+
+posts-none : (origin : Origin) (target : Target) (j i : StreamId) (c : PortId) (m : Message) → is_port (last_ear origin target i) c ≡ false → heard_of (last_ear origin target j) (Post c m) ≡ silence
+posts-none origin ToSink j i c m e = refl
+posts-none origin ToPort j i c m e = rw e refl
 
 pub each_event_is_heard_at_one_link : EachEventIsHeardAtOneLink
-each_event_is_heard_at_one_link n k l = record {
-  write = λ id v. at-sink n k l (Write (dest_of n) v) (told (v ∷ []) Open) (choose (told (v ∷ []) Open) _ _ (same-dest n k l)) refl;
-  close = λ id. at-sink n k l (Close (dest_of n)) (told [] Closed) (choose (told [] Closed) _ _ (same-dest n k l)) refl;
-  transform = λ id m v less. at-half n k l m (Transform (source_of (suc m)) v) (told (v ∷ []) Open) less refl (choose (told (v ∷ []) Open) _ _ (same-half n k l m));
-  flush = λ id m less. at-half n k l m (Flush (source_of (suc m))) (told [] Closed) less refl (choose (told [] Closed) _ _ (same-half n k l m));
+each_event_is_heard_at_one_link origin target n k l = record {
+  write = λ id v. at-last origin target n k l (HostCalled id (Write (dest_of n) v)) (by_sink target (told (v ∷ []) Open)) (sink-writes origin target k n id v) refl;
+  close = λ id. at-last origin target n k l (HostCalled id (Close (dest_of n))) (by_sink target (told [] Closed)) (sink-closes origin target k n id) refl;
+  transform = λ id m v less.
+      at-half origin target n k l m (HostCalled id (Transform (source_of (suc m)) v)) (told (v ∷ []) Open) less (no-transform origin target (dest_of k) (source_of (suc m)) id v)
+      (choose (told (v ∷ []) Open) _ _ (same-half origin target n k l m));
+  flush = λ id m less.
+      at-half origin target n k l m (HostCalled id (Flush (source_of (suc m)))) (told [] Closed) less (no-flush origin target (dest_of k) (source_of (suc m)) id)
+      (choose (told [] Closed) _ _ (same-half origin target n k l m));
   start = λ id i. refl;
   pull = λ id i. refl;
   cancel = λ id i reason. refl;
@@ -118,5 +175,6 @@ each_event_is_heard_at_one_link n k l = record {
   cancel_transform = λ id i reason. refl;
   settled = λ p. refl;
   signal = λ i reason. refl;
-  post = λ c m. no-post n k c m;
+  post = λ c m e. at-last origin target n k l (Post c m) (heard_post m) (λ is. posts origin target (dest_of k) (dest_of n) c m e) refl;
+  post_elsewhere = λ c m e. nowhere origin target n k l (Post c m) (posts-none origin target (dest_of k) (dest_of n) c m e) refl;
 }

@@ -1,7 +1,7 @@
--- The realm of a chain has no port, since no call that opens one makes a port, nor does one of a node.
+-- The realm of a chain without the end of a port has none, since no call that opens such a chain makes a port, nor does one of a node.
 use Rattle.std.proofs.Common.{◌≡◌, ℕ, zero, suc, Bool, true, false, List, [], ◌∷◌, ◌++◌, map, Option, Some, None, ◌∙◌, refl, ap, arith}
 use Rattle.ws_steps.specs.declared.calls.Call.{Call}
-use Rattle.ws_steps.specs.declared.calls.Call.TheVariants.{MakeReadable, MakeBytes, MakeWritable, MakeTransform, MakeSignal, Pipe, Settle, Enqueue, Finish, Fail, Trigger}
+use Rattle.ws_steps.specs.declared.calls.Call.TheVariants.{MakeReadable, MakeBytes, MakeWritable, MakeTransform, MakeSignal, Pipe, Settle, Enqueue, Finish, Fail, Trigger, Deliver}
 use Rattle.ws_steps.specs.declared.calls.Reply.{Reply}
 use Rattle.ws_steps.specs.declared.calls.Reply.TheVariants.{Promise}
 use Rattle.ws_steps.specs.declared.effects.Effect.{Effect}
@@ -15,7 +15,7 @@ use Rattle.ws_steps.specs.Slots.{Slots, Done, empty}
 use Rattle.ws_steps.specs.Turns.{performed, row}
 use Rattle.ws_laws.proofs.Ended.{port_shape, row-port_shapes}
 use Rattle.ws_room_laws.proofs.Turns.{performed-kept}
-use Rattle.ws_chain_laws.specs.Chain.{Origin, FromChunks, FromBytes}
+use Rattle.ws_chain_laws.specs.Chain.{Origin, FromChunks, FromBytes, FromPort, Target, ToSink, ToPort, is_ported}
 use Rattle.ws_chain_laws.specs.Opening.{transforms, streams, signals, signal_of, piping, pipes_from, opening}
 use Rattle.ws_chain_laws.specs.Outcomes.{past_of}
 use Rattle.ws_chain_laws.specs.Runs.{IsNodes, AreNodes}
@@ -32,6 +32,7 @@ IsPortless (Enqueue i v) = Unit {0}
 IsPortless (Finish i) = Unit {0}
 IsPortless (Fail i reason) = Unit {0}
 IsPortless (Trigger a reason) = Unit {0}
+IsPortless (Deliver c m) = Unit {0}
 IsPortless _ = ⊥
 
 abbrev pub ArePortless : List Entry → Type 0
@@ -53,6 +54,7 @@ call-ports (Enqueue i v) s n = grind arith
 call-ports (Finish i) s n = grind arith
 call-ports (Fail i reason) s n = grind arith
 call-ports (Trigger a reason) s n = grind arith
+call-ports (Deliver c m) s n = grind arith
 call-ports _ s n = absurd n
 
 no-shape : (xs : List cross.Slots) → map port_shape xs ≡ [] → xs ≡ []
@@ -104,13 +106,16 @@ pipes-portless : (k n : ℕ) → ArePortless (pipes_from k n)
 pipes-portless k zero = tt
 pipes-portless k (suc n) = (tt, pipes-portless (suc k) n)
 
-streams-portless : (origin : Origin) (n : ℕ) → ArePortless (streams origin n)
-streams-portless FromChunks n = (tt, portless-append (transforms n) _ (transforms-portless n) (tt, tt))
-streams-portless FromBytes n = (tt, portless-append (transforms n) _ (transforms-portless n) (tt, tt))
+streams-portless : (origin : Origin) (target : Target) (n : ℕ) → is_ported origin target ≡ false → ArePortless (streams origin target n)
+streams-portless FromChunks ToSink n e = (tt, portless-append (transforms n) _ (transforms-portless n) (tt, tt))
+streams-portless FromBytes ToSink n e = (tt, portless-append (transforms n) _ (transforms-portless n) (tt, tt))
+streams-portless FromPort target n e = cc
+streams-portless FromChunks ToPort n e = cc
+streams-portless FromBytes ToPort n e = cc
 
-opening-portless : (origin : Origin) (n : ℕ) (signalled : Bool) → ArePortless (opening origin n signalled)
-opening-portless origin n signalled =
-    portless-append (streams origin n) (signals signalled ++ pipes_from 0 n) (streams-portless origin n)
+opening-portless : (origin : Origin) (target : Target) (n : ℕ) (signalled : Bool) → is_ported origin target ≡ false → ArePortless (opening origin target n signalled)
+opening-portless origin target n signalled e =
+    portless-append (streams origin target n) (signals signalled ++ pipes_from 0 n) (streams-portless origin target n e)
     (portless-append (signals signalled) (pipes_from 0 n) (signals-portless signalled) (pipes-portless 0 n))
 
 -- and calls of a node
@@ -121,6 +126,7 @@ nodes-portless (Enqueue i v) is = tt
 nodes-portless (Finish i) is = tt
 nodes-portless (Fail i reason) is = tt
 nodes-portless (Trigger a reason) is = tt
+nodes-portless (Deliver c m) is = tt
 nodes-portless _ is = absurd is
 
 are-portless : (xs : List Entry) → AreNodes xs → ArePortless xs
@@ -129,7 +135,8 @@ are-portless (Called c ∷ xs) a = (nodes-portless c a.0, are-portless xs a.1)
 are-portless (Worked ∷ xs) a = are-portless xs a
 are-portless (Heard ∷ xs) a = are-portless xs a
 
-pub past-portless : (origin : Origin) (n : ℕ) (signalled : Bool) (xs : List Entry) → AreNodes xs → (run (past_of origin n signalled xs) empty).ports ≡ []
-past-portless origin n signalled xs a =
-    run-portless (past_of origin n signalled xs) empty
-    (portless-append (opening origin n signalled) (Called (piping (signal_of signalled) n) ∷ xs) (opening-portless origin n signalled) (tt, are-portless xs a)) refl
+pub past-portless : (origin : Origin) (target : Target) (n : ℕ) (signalled : Bool) (xs : List Entry) → is_ported origin target ≡ false → AreNodes xs
+    → (run (past_of origin target n signalled xs) empty).ports ≡ []
+past-portless origin target n signalled xs e a =
+    run-portless (past_of origin target n signalled xs) empty
+    (portless-append (opening origin target n signalled) (Called (piping (signal_of signalled) n) ∷ xs) (opening-portless origin target n signalled e) (tt, are-portless xs a)) refl

@@ -1,18 +1,12 @@
--- The streams of a chain, some of which are piped: the sink is made, perhaps a signal, and the pipes one after another. Links that were made stay
+-- The streams of segments, some of which are piped: perhaps a signal is made, and the pipes one after another. Links that were made stay
 -- links, and streams that aren't piped yet stay free.
-use Rattle.std.proofs.Common.{◌≡◌, ℕ, suc, ◌+◌, ◌*◌, ◌≤◌, ◌<◌, nat_eq, nat_le, nat_lt, Bool, true, false, [], ◌∷◌, length, Option, Some, None, slice_get, refl, ap, subst, ◌∙◌, arith, lt-ltb}
+use Rattle.std.proofs.Common.{◌≡◌, ℕ, suc, ◌+◌, ◌*◌, ◌≤◌, nat_le, Bool, true, false, [], ◌∷◌, length, Option, Some, None, slice_get, refl, ap, subst, ◌∙◌, arith}
 use Rattle.ws_value.specs.declared.ids.PipeId.{PipeId}
 use Rattle.ws_value.specs.declared.ids.PromiseId.{PromiseId}
 use Rattle.ws_value.specs.declared.ids.SignalId.{SignalId}
-use Rattle.ws_value.specs.declared.ids.StreamId.{StreamId}
 use Rattle.ws_value.specs.declared.value.Plain.{Plain}
 use Rattle.ws_steps.specs.declared.calls.Call.{Call}
-use Rattle.ws_steps.specs.declared.calls.Call.TheVariants.{MakeWritable, MakeSignal}
-use Rattle.ws_steps.specs.declared.calls.StartBy.TheVariants.{Now}
-use Rattle.ws_steps.specs.declared.effects.Owner.{Owner}
-use Rattle.ws_steps.specs.declared.effects.Owner.TheVariants.{Host, HalfOf}
-use Rattle.ws_steps.specs.declared.readable.SizeBy.TheVariants.{Count}
-use Rattle.ws_steps.specs.MakingCalls as making_calls
+use Rattle.ws_steps.specs.declared.calls.Call.TheVariants.{MakeSignal}
 use Rattle.ws_steps.specs.PipeCalls as pipe_calls
 use Rattle.ws_steps.specs.Begun.{Begun}
 use Rattle.ws_steps.specs.Calls.{begin}
@@ -20,120 +14,35 @@ use Rattle.ws_steps.specs.Histories.{is_same}
 use Rattle.ws_steps.specs.Pipes as pipe
 use Rattle.ws_steps.specs.Promises.{next_id, fresh}
 use Rattle.ws_steps.specs.Run.{Called, after_call}
-use Rattle.ws_steps.specs.Slots.{Slots, WritableStream, most_streams, owner_of, owner_at, has_source, has_writable, as_signal}
-use Rattle.ws_steps.specs.Writable as writable
+use Rattle.ws_steps.specs.Slots.{Slots, owner_at, has_source, has_writable, as_signal}
 use Rattle.ws_laws.proofs.Lists.{Each}
-use Rattle.ws_laws.proofs.Tables.{place_last}
-use Rattle.ws_link_laws.specs.Link.{OfTransform, ear_by, ear_at, giver_at, leaves}
 use Rattle.ws_link_laws.specs.Sound.{IsHosts, IsLink, IsFree, IsThere}
 use Rattle.ws_link_laws.proofs.Begins as begins
 use Rattle.ws_link_laws.proofs.Begins.{link-begins}
 use Rattle.ws_link_laws.proofs.Free.{free-called}
-use Rattle.ws_link_laws.proofs.Owners.{giver-stays, sink-stays, ear-stays}
-use Rattle.ws_link_laws.proofs.Pipelines.{opened-sink}
+use Rattle.ws_link_laws.proofs.Owners.{giver-stays, ear-stays}
 use Rattle.ws_link_laws.proofs.Steps.{link-called}
 use Rattle.ws_link_laws.proofs.Unheard.{fresh-unheard}
-use Rattle.ws_chain_laws.specs.Chain.{Origin, source_of, dest_of, link_of, transform_of, giver, taker, ear_of}
+use Rattle.ws_link_laws.specs.Link.{Ear, Giver, leaves}
+use Rattle.ws_wire_laws.specs.Segments.{Next}
+use Rattle.ws_chain_laws.specs.Chain.{source_of, dest_of, link_of}
 use Rattle.ws_chain_laws.specs.Opening.{nothing_prevented, piping}
-use Rattle.ws_chain_laws.proofs.Firsts.{OnlyFirst, first-append, called-first}
 use Rattle.ws_chain_laws.proofs.Lists.{all-get, all-last, length-last, split}
-use Rattle.ws_chain_laws.proofs.Making.{Made, performed-owner}
-use Rattle.ws_chain_laws.proofs.Numbers.{unlike, alike}
-use Rattle.ws_chain_laws.proofs.Young.{YoungStream, YoungPipe, Untriggered, Young, Mild, called-young}
+use Rattle.ws_chain_laws.proofs.Numbers.{unlike}
+use Rattle.ws_chain_laws.proofs.Pairs.{Pairs}
+use Rattle.ws_chain_laws.proofs.Readied.{Ready, le_of, lt_of}
+use Rattle.ws_chain_laws.proofs.Young.{YoungPipe, Untriggered, Young, Mild, fresh-unposted, called-young}
 
--- of n + 1 pipes so many are made; and there are so many signals
-pub record Ready (origin : Origin) (n c j : ℕ) (s : Slots) : Type 0 where
-  pub links : (k : ℕ) → suc k ≤ j → IsLink (source_of k) (dest_of k) (link_of k) s
-  pub free : (k : ℕ) → j ≤ k → k ≤ n → IsFree (source_of k) (dest_of k) s
-  pub gives : (k : ℕ) → k ≤ n → giver_at (source_of k) s ≡ giver origin k
-  pub takes : (k : ℕ) → k ≤ n → owner_at (dest_of k) s ≡ taker n k
-  pub hears : (k : ℕ) → k ≤ n → ear_at (dest_of k) s ≡ ear_of n k
-  pub young : Young c j s
-  pub first : OnlyFirst s.streams
+-- where all streams are made
 
--- numbers
-
-le_of : (a b : ℕ) → nat_le a b ≡ true → a ≤ b
-le_of a b e = grind (arith, e)
-
-lt_of : (a b : ℕ) → nat_le a b ≡ false → suc b ≤ a
-lt_of a b e = grind (arith, e)
-
--- the sink is made
-
-module _ (origin : Origin) (n : ℕ) (s : Slots) (d : Made origin n s) (few : 2 * n + 1 < most_streams) where
-  abbrev j : StreamId
-  j = record { 0 = length s.streams }
-
-  abbrev c : Call
-  c = MakeWritable 1 Count Now
-
-  abbrev b : Begun
-  b = making_calls.make_writable 1 Count Now j s
-
-  abbrev z : Slots
-  z = after_call c s
-
-  abbrev w : writable.Slots
-  w = writable.set_up Host 1 Count
-
-  room : nat_lt (length s.streams) most_streams ≡ true
-  room = let l = d.streams in lt-ltb (length s.streams) most_streams (omega (arith, l, few))
-
-  is : begin c s ≡ b
-  unfolding begin
-  is = rw room refl
-
-  j-is : j ≡ dest_of n
-  j-is = ap (λ (m : ℕ). record { 0 = m }) d.streams
-
-  new : slice_get b.done.slots.streams j.0 ≡ Some (WritableStream w)
-  new = place_last s.streams (WritableStream w)
-
-  new-owner : owner_at j z ≡ Host
-  new-owner = rw is (performed-owner j b.done ∙ ap owner_of new)
-
-  last-owner : owner_at (dest_of n) z ≡ Host
-  last-owner = subst (λ (i : StreamId). owner_at i z ≡ Host) j-is new-owner
-
-  last-taker : owner_at (dest_of n) z ≡ taker n n
-  last-taker = last-owner ∙ rw (alike n) refl
-
-  last-ear : ear_at (dest_of n) z ≡ ear_of n n
-  last-ear = ap (λ (o : Owner). ear_by (dest_of n) z o) last-owner ∙ rw (alike n) refl
-
-  taker-is : (k : ℕ) → suc k ≤ n → HalfOf (transform_of k) ≡ taker n k
-  taker-is k l = let u : nat_eq k n ≡ false = unlike k n (λ e. omega (arith, e, l)) in rw u refl
-
-  ear-is : (k : ℕ) → suc k ≤ n → OfTransform (transform_of k) (source_of (suc k)) ≡ ear_of n k
-  ear-is k l = let u : nat_eq k n ≡ false = unlike k n (λ e. omega (arith, e, l)) in rw u refl
-
-  sink-young : Young 0 0 z
-  sink-young = called-young 0 0 c s (rw is young) (rw is (tt, tt))
-    where
-      young : Young 0 0 b.done.slots
-      young = record {
-        streams = all-last YoungStream s.streams (WritableStream w) d.young.streams (record { state = refl; queue = refl; flight = refl; mark = refl; size = refl });
-        pipes = d.young.pipes;
-        signals = d.young.signals;
-        count = d.young.count;
-        piped = d.young.piped;
-        quiet = d.young.quiet;
-      }
-
-  there : (k : ℕ) → k ≤ n → has_source (source_of k) s ≡ true
-  there k l = split (λ (m : ℕ). has_source (source_of m) s ≡ true) n k l d.opened.there (λ less. (d.free k less).source)
-
-  pub ready-sink : Ready origin n 0 0 z
-  ready-sink = record {
-    links = λ k l. absurd (omega (arith, l));
-    free = λ k a l. split (λ (m : ℕ). IsFree (source_of m) (dest_of m) z) n k l (subst (λ (i : StreamId). IsFree (source_of n) i z) j-is (opened-sink (source_of n) s 1 Count Now d.opened room)) (λ less. free-called (source_of k) (dest_of k) s c (d.free k less) refl);
-    gives = λ k l. giver-stays (source_of k) (Called c ∷ []) s (there k l) ∙ d.gives k l;
-    takes = λ k l. split (λ (m : ℕ). owner_at (dest_of m) z ≡ taker n m) n k l last-taker (λ less. sink-stays (dest_of k) (Called c ∷ []) s (d.free k less).sink ∙ (d.takes k less ∙ taker-is k less));
-    hears = λ k l. split (λ (m : ℕ). ear_at (dest_of m) z ≡ ear_of n m) n k l last-ear (λ less. ear-stays (dest_of k) (Called c ∷ []) s (d.free k less).sink (d.free k less).sink_owner ∙ (d.hears k less ∙ ear-is k less));
-    young = sink-young;
-    first = called-first c s (rw is (first-append s.streams (WritableStream w) refl d.first));
-  }
+pub ready-pairs : (g : ℕ → Giver) (h : ℕ → Ear) (n : Next) (m : ℕ) (s : Slots) → Pairs g h n s → n.link ≡ suc m → Ready g h m 0 0 s
+ready-pairs g h n m s p e = record {
+  links = λ k l. absurd (omega (arith, l));
+  free = λ k a l. p.free k (omega (arith, l, e));
+  gives = λ k l. p.gives k (omega (arith, l, e));
+  hears = λ k l. p.hears k (omega (arith, l, e));
+  young = p.young;
+}
 
 -- what is there stays
 
@@ -142,8 +51,8 @@ record Ends (k : ℕ) (s : Slots) : Type 0 where
   sink : has_writable (dest_of k) s ≡ true
   owner : IsHosts s (owner_at (dest_of k) s)
 
-ends-of : (origin : Origin) (n c j : ℕ) (s : Slots) → Ready origin n c j s → (k : ℕ) → k ≤ n → Ends k s
-ends-of origin n c j s r k l = by (nat_le j k) refl
+ends-of : (g : ℕ → Giver) (h : ℕ → Ear) (n c j : ℕ) (s : Slots) → Ready g h n c j s → (k : ℕ) → k ≤ n → Ends k s
+ends-of g h n c j s r k l = by (nat_le j k) refl
   where
     by : (x : Bool) → nat_le j k ≡ x → Ends k s
     by true e = let f = r.free k (le_of j k e) l in record { source = f.source; sink = f.sink; owner = f.sink_owner }
@@ -151,20 +60,18 @@ ends-of origin n c j s r k l = by (nat_le j k) refl
 
 -- a signal is made
 
-pub ready-signal : (origin : Origin) (n : ℕ) (s : Slots) → Ready origin n 0 0 s → Ready origin n 1 0 (after_call MakeSignal s)
+pub ready-signal : (g : ℕ → Giver) (h : ℕ → Ear) (n : ℕ) (s : Slots) → Ready g h n 0 0 s → Ready g h n 1 0 (after_call MakeSignal s)
 unfolding begin
-ready-signal origin n s r = record {
+ready-signal g h n s r = record {
   links = λ k l. absurd (omega (arith, l));
   free = λ k a l. free-called (source_of k) (dest_of k) s MakeSignal (r.free k a l) refl;
-  gives = λ k l. giver-stays (source_of k) (Called MakeSignal ∷ []) s (ends-of origin n 0 0 s r k l).source ∙ r.gives k l;
-  takes = λ k l. sink-stays (dest_of k) (Called MakeSignal ∷ []) s (ends-of origin n 0 0 s r k l).sink ∙ r.takes k l;
-  hears = λ k l. ear-stays (dest_of k) (Called MakeSignal ∷ []) s (ends-of origin n 0 0 s r k l).sink (ends-of origin n 0 0 s r k l).owner ∙ r.hears k l;
+  gives = λ k l. giver-stays (source_of k) (Called MakeSignal ∷ []) s (ends-of g h n 0 0 s r k l).source ∙ r.gives k l;
+  hears = λ k l. ear-stays (dest_of k) (Called MakeSignal ∷ []) s (ends-of g h n 0 0 s r k l).sink (ends-of g h n 0 0 s r k l).owner ∙ r.hears k l;
   young =
       let e = r.young.count in
       let m = length-last s.signals pipe.new_signal in
       called-young 1 0 MakeSignal s
-      (record { streams = r.young.streams; pipes = r.young.pipes; signals = all-last Untriggered s.signals pipe.new_signal r.young.signals refl; count = omega (arith, m, e); piped = r.young.piped; quiet = r.young.quiet }) tt;
-  first = called-first MakeSignal s r.first;
+      (record { streams = r.young.streams; pipes = r.young.pipes; signals = all-last Untriggered s.signals pipe.new_signal r.young.signals refl; count = omega (arith, m, e); piped = r.young.piped; quiet = r.young.quiet; unposted = r.young.unposted }) tt;
 }
 
 -- a pipe is made
@@ -175,7 +82,7 @@ leaves-other k j n signal =
     let b : is_same (dest_of k) (dest_of j) ≡ false = unlike (2 * k + 1) (2 * j + 1) (λ e. n (omega (arith, e))) in
     rw (a, b) refl
 
-module _ (origin : Origin) (n c j : ℕ) (s : Slots) (r : Ready origin n c j s) (less : j ≤ n) (signal : Option SignalId) (there : IsThere signal s) where
+module _ (g : ℕ → Giver) (h : ℕ → Ear) (n c j : ℕ) (s : Slots) (r : Ready g h n c j s) (less : j ≤ n) (signal : Option SignalId) (there : IsThere signal s) where
   abbrev call : Call
   call = piping signal j
 
@@ -225,19 +132,18 @@ module _ (origin : Origin) (n c j : ℕ) (s : Slots) (r : Ready origin n c j s) 
             count = r.young.count;
             piped = omega (arith, m, e);
             quiet = λ w. fresh-unheard w (fresh (fresh (fresh s.promises))) ∙ (fresh-unheard w (fresh (fresh s.promises)) ∙ (fresh-unheard w (fresh s.promises) ∙ (fresh-unheard w s.promises ∙ r.young.quiet w)));
+            unposted = λ q. fresh-unposted q (fresh (fresh (fresh s.promises))) ∙ (fresh-unposted q (fresh (fresh s.promises)) ∙ (fresh-unposted q (fresh s.promises) ∙ (fresh-unposted q s.promises ∙ r.young.unposted q)));
           }
 
   ends : (k : ℕ) → k ≤ n → Ends k s
-  ends k l = ends-of origin n c j s r k l
+  ends k l = ends-of g h n c j s r k l
 
-  pub ready-pipe : Ready origin n c (suc j) to
+  pub ready-pipe : Ready g h n c (suc j) to
   ready-pipe = record {
     links = λ k l. split (λ (m : ℕ). IsLink (source_of m) (dest_of m) (link_of m) to) j k (omega (arith, l)) new-link
         (λ below. (link-called (source_of k) (dest_of k) (link_of k) s call (r.links k below) (leaves-other k j (λ e. omega (arith, e, below)) signal)).0);
     free = λ k a l. free-called (source_of k) (dest_of k) s call (r.free k (omega (arith, a)) l) (leaves-other k j (λ e. omega (arith, e, a)) signal);
     gives = λ k l. giver-stays (source_of k) (Called call ∷ []) s (ends k l).source ∙ r.gives k l;
-    takes = λ k l. sink-stays (dest_of k) (Called call ∷ []) s (ends k l).sink ∙ r.takes k l;
     hears = λ k l. ear-stays (dest_of k) (Called call ∷ []) s (ends k l).sink (ends k l).owner ∙ r.hears k l;
     young = pipe-young;
-    first = called-first call s (rw is-begun r.first);
   }

@@ -1,7 +1,7 @@
 -- A run without a call that tees a stream has no tee, and so has none that opens a chain, nor one of a node.
 use Rattle.std.proofs.Common.{◌≡◌, ℕ, zero, suc, Bool, true, false, List, [], ◌∷◌, ◌++◌, length, Option, Some, None, subst, ◌∙◌, refl}
 use Rattle.ws_steps.specs.declared.calls.Call.{Call}
-use Rattle.ws_steps.specs.declared.calls.Call.TheVariants.{Tee, Settle, Enqueue, Finish, Fail, Trigger}
+use Rattle.ws_steps.specs.declared.calls.Call.TheVariants.{Tee, Settle, Enqueue, Finish, Fail, Trigger, Deliver}
 use Rattle.ws_steps.specs.declared.calls.Reply.{Reply}
 use Rattle.ws_steps.specs.declared.calls.Reply.TheVariants.{Promise}
 use Rattle.ws_steps.specs.declared.promises.Job.{Job}
@@ -17,8 +17,8 @@ use Rattle.ws_steps.specs.Slots.{Slots, empty}
 use Rattle.ws_steps.specs.Turns.{performed}
 use Rattle.ws_laws.proofs.EachCall.{each_call}
 use Rattle.ws_link_laws.proofs.Pipelines.{performed-teeless}
-use Rattle.ws_chain_laws.specs.Chain.{Origin, FromChunks, FromBytes}
-use Rattle.ws_chain_laws.specs.Opening.{transforms, streams, signals, signal_of, piping, pipes_from, opening}
+use Rattle.ws_chain_laws.specs.Chain.{Origin, FromChunks, FromBytes, FromPort, Target, ToSink, ToPort}
+use Rattle.ws_chain_laws.specs.Opening.{sink_call, transforms, streams, signals, signal_of, piping, pipes_from, opening}
 use Rattle.ws_chain_laws.specs.Outcomes.{past_of}
 use Rattle.ws_chain_laws.specs.Runs.{IsNodes, AreNodes}
 
@@ -117,13 +117,18 @@ pipes-teeless : (k n : ℕ) → AreTeeless (pipes_from k n)
 pipes-teeless k zero = tt
 pipes-teeless k (suc n) = (tt, pipes-teeless (suc k) n)
 
-streams-teeless : (origin : Origin) (n : ℕ) → AreTeeless (streams origin n)
-streams-teeless FromChunks n = (tt, teeless-append (transforms n) _ (transforms-teeless n) (tt, tt))
-streams-teeless FromBytes n = (tt, teeless-append (transforms n) _ (transforms-teeless n) (tt, tt))
+sink-teeless : (target : Target) → AreTeeless (Called (sink_call target) ∷ [])
+sink-teeless ToSink = (tt, tt)
+sink-teeless ToPort = (tt, tt)
 
-opening-teeless : (origin : Origin) (n : ℕ) (signalled : Bool) → AreTeeless (opening origin n signalled)
-opening-teeless origin n signalled =
-    teeless-append (streams origin n) (signals signalled ++ pipes_from 0 n) (streams-teeless origin n)
+streams-teeless : (origin : Origin) (target : Target) (n : ℕ) → AreTeeless (streams origin target n)
+streams-teeless FromChunks target n = (tt, teeless-append (transforms n) _ (transforms-teeless n) (sink-teeless target))
+streams-teeless FromBytes target n = (tt, teeless-append (transforms n) _ (transforms-teeless n) (sink-teeless target))
+streams-teeless FromPort target n = (tt, teeless-append (transforms n) _ (transforms-teeless n) (sink-teeless target))
+
+opening-teeless : (origin : Origin) (target : Target) (n : ℕ) (signalled : Bool) → AreTeeless (opening origin target n signalled)
+opening-teeless origin target n signalled =
+    teeless-append (streams origin target n) (signals signalled ++ pipes_from 0 n) (streams-teeless origin target n)
     (teeless-append (signals signalled) (pipes_from 0 n) (signals-teeless signalled) (pipes-teeless 0 n))
 
 -- and calls of a node
@@ -134,6 +139,7 @@ nodes-teeless (Enqueue i v) is = tt
 nodes-teeless (Finish i) is = tt
 nodes-teeless (Fail i reason) is = tt
 nodes-teeless (Trigger a reason) is = tt
+nodes-teeless (Deliver c m) is = tt
 nodes-teeless _ is = absurd is
 
 are-teeless : (xs : List Entry) → AreNodes xs → AreTeeless xs
@@ -142,7 +148,7 @@ are-teeless (Called c ∷ xs) a = (nodes-teeless c a.0, are-teeless xs a.1)
 are-teeless (Worked ∷ xs) a = are-teeless xs a
 are-teeless (Heard ∷ xs) a = are-teeless xs a
 
-pub past-teeless : (origin : Origin) (n : ℕ) (signalled : Bool) (xs : List Entry) → AreNodes xs → (run (past_of origin n signalled xs) empty).tees ≡ []
-past-teeless origin n signalled xs a =
-    run-teeless (past_of origin n signalled xs) empty
-    (teeless-append (opening origin n signalled) (Called (piping (signal_of signalled) n) ∷ xs) (opening-teeless origin n signalled) (tt, are-teeless xs a)) refl
+pub past-teeless : (origin : Origin) (target : Target) (n : ℕ) (signalled : Bool) (xs : List Entry) → AreNodes xs → (run (past_of origin target n signalled xs) empty).tees ≡ []
+past-teeless origin target n signalled xs a =
+    run-teeless (past_of origin target n signalled xs) empty
+    (teeless-append (opening origin target n signalled) (Called (piping (signal_of signalled) n) ∷ xs) (opening-teeless origin target n signalled) (tt, are-teeless xs a)) refl

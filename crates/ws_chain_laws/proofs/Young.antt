@@ -1,5 +1,6 @@
 -- A realm in which nothing has gone on: streams were made and piped, and no job was performed.
 use Rattle.std.proofs.Common.{◌≡◌, ℕ, false, List, [], ◌∷◌, ◌++◌, length, Option, Some, None, slice_get, refl, ◌∙◌, arith}
+use Rattle.ws_value.specs.declared.ids.PortId.{PortId}
 use Rattle.ws_value.specs.declared.ids.SignalId.{SignalId}
 use Rattle.ws_value.specs.declared.ids.PipeId.{PipeId}
 use Rattle.ws_value.specs.declared.ids.StreamId.{StreamId}
@@ -24,6 +25,8 @@ use Rattle.ws_steps.specs.Effects.{Out}
 use Rattle.ws_steps.specs.Operations.{readable_operation, byte_readable_operation, writable_operation, signal_operation}
 use Rattle.ws_steps.specs.Pipes as pipe
 use Rattle.ws_steps.specs.Readable as readable
+use Rattle.ws_steps.specs.PortHistory.{posted_in}
+use Rattle.ws_steps.specs.Promises.{Table, fresh}
 use Rattle.ws_steps.specs.Run.{after_call}
 use Rattle.ws_steps.specs.Slots.{Slots, Stream, ReadableStream, ByteStream, WritableStream, Done, nothing, has_readable, has_byte, has_writable, readable_at, byte_at, writable_at, put_stream, put_readable, put_byte, put_writable, on_readable, on_byte, on_signal_at}
 use Rattle.ws_steps.specs.Turns.{row, performed}
@@ -32,6 +35,7 @@ use Rattle.ws_laws.proofs.Lists.{Each, each-append}
 use Rattle.ws_laws.proofs.Tables.{either, readable_acts, byte_acts, writable_acts, readable_there, byte_there, writable_there}
 use Rattle.ws_room_laws.proofs.Turns.{performed-kept}
 use Rattle.ws_link_laws.specs.Link.{Ear, silence, unheard}
+use Rattle.ws_cross_laws.proofs.Told.{row-posted, watch-posted}
 use Rattle.ws_link_laws.proofs.Unheard.{row-unheard, watch-unheard}
 use Rattle.ws_chain_laws.proofs.Lists.{AllOf, all-get, all-set, length-set}
 
@@ -68,6 +72,7 @@ pub record Young (c p : ℕ) (s : Slots) : Type 0 where
   pub count : length s.signals ≡ c
   pub piped : length s.pipes ≡ p
   pub quiet : (w : Ear) → unheard w s.promises.events ≡ silence
+  pub unposted : (d : PortId) → posted_in d s.promises.events ≡ []
 
 -- the effects of the making and piping of streams
 
@@ -170,6 +175,20 @@ row-quiet w (Settle p o) s m = row-unheard w (Settle p o) s tt
 row-quiet w (Queue n) s m = row-unheard w (Queue n) s tt
 row-quiet w _ s m = absurd m
 
+row-unposted : (d : PortId) (e : Effect) (s : Slots) → Mild e → posted_in d (row e s).slots.promises.events ≡ posted_in d s.promises.events
+row-unposted d (OnReadable i operation) s m = row-posted d (OnReadable i operation) s tt
+row-unposted d (OnWritable i operation) s m = row-posted d (OnWritable i operation) s tt
+row-unposted d (OnSignal a operation) s m = row-posted d (OnSignal a operation) s tt
+row-unposted d (StartAlgorithm i step start) s m = row-posted d (StartAlgorithm i step start) s tt
+row-unposted d (Give gift u) s m = row-posted d (Give gift u) s tt
+row-unposted d (Settle p o) s m = row-posted d (Settle p o) s tt
+row-unposted d (Queue n) s m = row-posted d (Queue n) s tt
+row-unposted d _ s m = absurd m
+
+pub fresh-unposted : (d : PortId) (t : Table) → posted_in d (fresh t).events ≡ posted_in d t.events
+unfolding fresh
+fresh-unposted d t = refl
+
 record Goes (c p : ℕ) (s : Slots) (es : List Effect) : Type 0 where
   young : Young c p s
   mild : Each Mild es
@@ -178,7 +197,7 @@ row-goes : (c p : ℕ) (e : Effect) (s : Slots) (es : List Effect) → Goes c p 
 row-goes c p e s es g =
     let a = row-after c p e s g.young g.mild.0 in
     record {
-      young = record { streams = a.streams; pipes = a.pipes; signals = a.signals; count = a.count; piped = a.piped; quiet = λ w. row-quiet w e s g.mild.0 ∙ g.young.quiet w };
+      young = record { streams = a.streams; pipes = a.pipes; signals = a.signals; count = a.count; piped = a.piped; quiet = λ w. row-quiet w e s g.mild.0 ∙ g.young.quiet w; unposted = λ k. row-unposted k e s g.mild.0 ∙ g.young.unposted k };
       mild = each-append Mild (row e s).caused es a.mild g.mild.1;
     }
 
@@ -187,14 +206,14 @@ performed-young c p d y m = (performed-kept (λ ms s es. Goes c p s es) (λ ms s
 
 -- and so does a call that begins so
 
-with-promises : (c p : ℕ) (s z : Slots) → Young c p s → z.streams ≡ s.streams → z.pipes ≡ s.pipes → z.signals ≡ s.signals → ((w : Ear) → unheard w z.promises.events ≡ unheard w s.promises.events) → Young c p z
-with-promises c p s z y e f g h = record { streams = rw e y.streams; pipes = rw f y.pipes; signals = rw g y.signals; count = rw g y.count; piped = rw f y.piped; quiet = λ w. h w ∙ y.quiet w }
+with-promises : (c p : ℕ) (s z : Slots) → Young c p s → z.streams ≡ s.streams → z.pipes ≡ s.pipes → z.signals ≡ s.signals → ((w : Ear) → unheard w z.promises.events ≡ unheard w s.promises.events) → ((d : PortId) → posted_in d z.promises.events ≡ posted_in d s.promises.events) → Young c p z
+with-promises c p s z y e f g h k = record { streams = rw e y.streams; pipes = rw f y.pipes; signals = rw g y.signals; count = rw g y.count; piped = rw f y.piped; quiet = λ w. h w ∙ y.quiet w; unposted = λ d. k d ∙ y.unposted d }
 
 named-young : (c p : ℕ) (reply : Reply) (s : Slots) → Young c p s → Young c p (named reply s)
-named-young c p (ReplyPromise q) s y = with-promises c p s (named (ReplyPromise q) s) y refl refl refl (λ w. watch-unheard w q s.promises)
+named-young c p (ReplyPromise q) s y = with-promises c p s (named (ReplyPromise q) s) y refl refl refl (λ w. watch-unheard w q s.promises) (λ d. watch-posted d q s.promises)
 named-young c p _ s y = y
 
 pub called-young : (c p : ℕ) (call : Call) (s : Slots) → Young c p (begin call s).done.slots → Each Mild (begin call s).done.caused → Young c p (after_call call s)
 called-young c p call s y m =
     let n = named-young c p (begin call s).reply (performed (begin call s).done) (performed-young c p (begin call s).done y m) in
-    with-promises c p (named (begin call s).reply (performed (begin call s).done)) (after_call call s) n refl refl refl (λ w. refl)
+    with-promises c p (named (begin call s).reply (performed (begin call s).done)) (after_call call s) n refl refl refl (λ w. refl) (λ d. refl)

@@ -13,17 +13,17 @@ use Rattle.ws_host_laws.specs.HostCalls.{WasSettledWell}
 use Rattle.ws_link_laws.specs.Link.{silence}
 use Rattle.ws_reason_laws.specs.Origins.{through}
 use Rattle.ws_reason_laws.specs.Reasons.{NeedsTee, NeedsPort, failures}
-use Rattle.ws_chain_laws.specs.Chain.{Origin, source_of, dest_of, IsChain}
+use Rattle.ws_chain_laws.specs.Chain.{Origin, Target, ToSink, source_of, dest_of, IsChain}
 use Rattle.ws_chain_laws.specs.Laws.{next_enters}
 use Rattle.ws_chain_laws.specs.Opening.{piping, signal_of, opening, chained, promise_of}
 
 -- the calls that open a realm with a chain, and then these
-abbrev pub past_of : Origin → ℕ → Bool → List Entry → List Entry
-past_of origin n signalled xs = opening origin n signalled ++ Called (piping (signal_of signalled) n) ∷ xs
+abbrev pub past_of : Origin → Target → ℕ → Bool → List Entry → List Entry
+past_of origin target n signalled xs = opening origin target n signalled ++ Called (piping (signal_of signalled) n) ∷ xs
 
 -- the promise of the last pipe
-abbrev pub last_promise : Origin → ℕ → Bool → PromiseId
-last_promise origin n signalled = promise_of n (chained origin n signalled)
+abbrev pub last_promise : Origin → Target → ℕ → Bool → PromiseId
+last_promise origin target n signalled = promise_of n (chained origin target n signalled)
 
 -- the sink is closed, and the host settled its close algorithm well
 pub record IsClosedWell (n : ℕ) (entries : List Entry) : Type 0 where
@@ -32,18 +32,18 @@ pub record IsClosedWell (n : ℕ) (entries : List Entry) : Type 0 where
 
 -- After the opening of a chain and these calls, jobs and events: the promises of its pipes stay theirs, and are watched. Where nothing came through a
 -- transform stream, that of the last pipe is rejected only with a reason that a call gave by which something fails; but with a pair of reasons also
--- where there is a tee, and with a DataCloneError where there is a port. Where it is fulfilled, the sink closed well
-pub record ChainEnds (origin : Origin) (n : ℕ) (signalled : Bool) (xs : List Entry) : Type 0 where
-  pub slots : run (past_of origin n signalled xs) empty ≡ run xs (chained origin n signalled)
-  pub pipes : (k : ℕ) → k ≤ n → promise_of k (run (past_of origin n signalled xs) empty) ≡ promise_of k (chained origin n signalled)
-  pub watched : (k : ℕ) → k ≤ n → is_some (rank_at (run (past_of origin n signalled xs) empty).promises (promise_of k (chained origin n signalled))) ≡ true
-  pub rejected : (r : Plain) → through xs (chained origin n signalled) ≡ [] → NeedsTee r (past_of origin n signalled xs) → NeedsPort r (past_of origin n signalled xs)
-      → outcome_at (run (past_of origin n signalled xs) empty).promises (last_promise origin n signalled) ≡ Some (Rejected r) → Contains (failures xs) r
-  pub fulfilled : (v : Plain) → outcome_at (run (past_of origin n signalled xs) empty).promises (last_promise origin n signalled) ≡ Some (Fulfilled v)
-      → IsClosedWell n (past_of origin n signalled xs)
+-- where there is a tee, and with a DataCloneError where there is a port. Where it is fulfilled and goes to a sink of the host's, that closed well
+pub record ChainEnds (origin : Origin) (target : Target) (n : ℕ) (signalled : Bool) (xs : List Entry) : Type 0 where
+  pub slots : run (past_of origin target n signalled xs) empty ≡ run xs (chained origin target n signalled)
+  pub pipes : (k : ℕ) → k ≤ n → promise_of k (run (past_of origin target n signalled xs) empty) ≡ promise_of k (chained origin target n signalled)
+  pub watched : (k : ℕ) → k ≤ n → is_some (rank_at (run (past_of origin target n signalled xs) empty).promises (promise_of k (chained origin target n signalled))) ≡ true
+  pub rejected : (r : Plain) → through xs (chained origin target n signalled) ≡ [] → NeedsTee r (past_of origin target n signalled xs) → NeedsPort r (past_of origin target n signalled xs)
+      → outcome_at (run (past_of origin target n signalled xs) empty).promises (last_promise origin target n signalled) ≡ Some (Rejected r) → Contains (failures xs) r
+  pub fulfilled : (v : Plain) → target ≡ ToSink → outcome_at (run (past_of origin target n signalled xs) empty).promises (last_promise origin target n signalled) ≡ Some (Fulfilled v)
+      → IsClosedWell n (past_of origin target n signalled xs)
 
 abbrev pub EachChainEnds : Type 0
-EachChainEnds = (origin : Origin) (n : ℕ) (signalled : Bool) (xs : List Entry) → 2 * n + 2 ≤ most_streams → ChainEnds origin n signalled xs
+EachChainEnds = (origin : Origin) (target : Target) (n : ℕ) (signalled : Bool) (xs : List Entry) → 2 * n + 2 ≤ most_streams → ChainEnds origin target n signalled xs
 
 -- what the next job brings out of transform stream k: nothing; or the end, and then the host settled its flush well
 pub data Flushes (k : ℕ) (entries : List Entry) : Type 0 where
@@ -57,4 +57,4 @@ pub record JobBrings (n : ℕ) (entries : List Entry) : Type 0 where
   pub half : (k : ℕ) → suc k ≤ n → Flushes k entries
 
 abbrev pub EachEndWasFlushed : Type 0
-EachEndWasFlushed = (origin : Origin) (n : ℕ) (entries : List Entry) → IsChain origin n (run entries empty) → JobBrings n entries
+EachEndWasFlushed = (origin : Origin) (target : Target) (n : ℕ) (entries : List Entry) → IsChain origin target n (run entries empty) → JobBrings n entries

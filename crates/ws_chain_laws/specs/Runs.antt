@@ -1,28 +1,35 @@
 -- A chain from its opening on, over the calls of a node of a pipeline, jobs, and events that the node takes.
-use Rattle.std.specs.Prelude.{ℕ, ◌+◌, ◌*◌, ◌≤◌, ◌≡◌, Bool, List, [], ◌∷◌, Some, Contains}
+use Rattle.std.specs.Prelude.{ℕ, suc, ◌+◌, ◌*◌, ◌≤◌, ◌≡◌, Bool, false, List, [], ◌∷◌, Some, Contains}
 use Rattle.ws_value.specs.declared.value.Outcome.TheVariants.{Fulfilled, Rejected}
 use Rattle.ws_value.specs.declared.value.Plain.{Plain}
 use Rattle.ws_value.specs.declared.value.Value.{Value}
 use Rattle.ws_steps.specs.declared.calls.Call.{Call}
-use Rattle.ws_steps.specs.declared.calls.Call.TheVariants.{Enqueue, Finish, Fail, Trigger, Settle}
+use Rattle.ws_steps.specs.declared.calls.Call.TheVariants.{Enqueue, Finish, Fail, Trigger, Deliver, Settle}
+use Rattle.ws_steps.specs.Cross.{data_clone}
 use Rattle.ws_steps.specs.Promises.{next_job, outcome_at}
 use Rattle.ws_steps.specs.Run.{Entry, Called, Worked, Heard, step, run, first_event}
 use Rattle.ws_steps.specs.Slots.{Slots, empty, most_streams}
 use Rattle.ws_flow.specs.Told.{Told, then_told, IsShortOf}
 use Rattle.ws_link_laws.specs.Link.{silence}
+use Rattle.ws_reason_laws.specs.Origins.{through}
 use Rattle.ws_reason_laws.specs.Reasons.{failures}
-use Rattle.ws_chain_laws.specs.Chain.{Origin, source_of, behind_at, IsChain, call_enters}
+use Rattle.ws_link_laws.specs.Laws.{run_heard, run_enters}
+use Rattle.ws_wire_laws.specs.Wire.{Each, IsWired, behind_on}
+use Rattle.ws_wire_laws.specs.Segments.{Segment, wiring, nothing_made, behind_segments}
+use Rattle.ws_chain_laws.specs.Chain.{Origin, Target, ToSink, source_of, behind_at, is_ported, IsChain, call_enters}
 use Rattle.ws_chain_laws.specs.Laws.{next_enters, next_heard}
-use Rattle.ws_chain_laws.specs.Opening.{chained}
+use Rattle.ws_chain_laws.specs.Opening.{wired_of, chained}
 use Rattle.ws_chain_laws.specs.Outcomes.{past_of, last_promise, IsClosedWell}
 
--- a call of a node: it settles a call of its algorithms, enqueues, finishes, fails a stream that gives chunks, or triggers a signal
+-- a call of a node: it settles a call of its algorithms, enqueues, finishes, fails a stream that gives chunks, triggers a signal, or delivers a
+-- message to a port
 abbrev pub IsNodes : Call → Type 0
 IsNodes (Settle h answer) = Unit {0}
 IsNodes (Enqueue i v) = Unit {0}
 IsNodes (Finish i) = Unit {0}
 IsNodes (Fail i reason) = (m : ℕ) × (i ≡ source_of m)
 IsNodes (Trigger a reason) = Unit {0}
+IsNodes (Deliver c m) = Unit {0}
 IsNodes _ = ⊥
 
 -- all calls of a run are
@@ -40,23 +47,38 @@ brought_to origin k (Worked ∷ xs) s = then_told (next_enters k (next_job s.pro
 brought_to origin k (Heard ∷ xs) s = brought_to origin k xs (step s Heard)
 
 -- and what the host hears in it of the stream into which link k goes
-abbrev pub heard_from : ℕ → ℕ → List Entry → Slots → Told Value
-heard_from n k [] s = silence
-heard_from n k (Called c ∷ xs) s = heard_from n k xs (step s (Called c))
-heard_from n k (Worked ∷ xs) s = heard_from n k xs (step s Worked)
-heard_from n k (Heard ∷ xs) s = then_told (next_heard n k (first_event s.promises.events)) (heard_from n k xs (step s Heard))
+abbrev pub heard_from : Origin → Target → ℕ → ℕ → List Entry → Slots → Told Value
+heard_from origin target n k [] s = silence
+heard_from origin target n k (Called c ∷ xs) s = heard_from origin target n k xs (step s (Called c))
+heard_from origin target n k (Worked ∷ xs) s = heard_from origin target n k xs (step s Worked)
+heard_from origin target n k (Heard ∷ xs) s = then_told (next_heard origin target n k (first_event s.promises.events)) (heard_from origin target n k xs (step s Heard))
 
 -- It stays a chain. On each link what the host heard, followed by what is behind it then, is what was brought, or a first part of that which says so.
--- The last pipe is rejected only with a failure, and where it is fulfilled the sink closed well
-pub record NodeGoes (origin : Origin) (n : ℕ) (signalled : Bool) (xs : List Entry) : Type 0 where
-  pub chain : IsChain origin n (run xs (chained origin n signalled))
+-- No call brought a reason through a transform stream, or into a byte stream. The last pipe is rejected only with a failure; but with a DataCloneError
+-- also where there is a port at an end. Where it is fulfilled and goes to a sink of the host's, that closed well
+pub record NodeGoes (origin : Origin) (target : Target) (n : ℕ) (signalled : Bool) (xs : List Entry) : Type 0 where
+  pub chain : IsChain origin target n (run xs (chained origin target n signalled))
+  pub quiet : through xs (chained origin target n signalled) ≡ []
   pub short : (k : ℕ) → k ≤ n
-      → IsShortOf (then_told (heard_from n k xs (chained origin n signalled)) (behind_at k (run xs (chained origin n signalled)))) (brought_to origin k xs (chained origin n signalled))
-  pub rejected : (r : Plain) → outcome_at (run (past_of origin n signalled xs) empty).promises (last_promise origin n signalled) ≡ Some (Rejected r)
-      → Contains (failures xs) r
-  pub fulfilled : (v : Plain) → outcome_at (run (past_of origin n signalled xs) empty).promises (last_promise origin n signalled) ≡ Some (Fulfilled v)
-      → IsClosedWell n (past_of origin n signalled xs)
+      → IsShortOf (then_told (heard_from origin target n k xs (chained origin target n signalled)) (behind_at k (run xs (chained origin target n signalled)))) (brought_to origin k xs (chained origin target n signalled))
+  pub rejected : (r : Plain) → (r ≡ data_clone → is_ported origin target ≡ false)
+      → outcome_at (run (past_of origin target n signalled xs) empty).promises (last_promise origin target n signalled) ≡ Some (Rejected r) → Contains (failures xs) r
+  pub fulfilled : (v : Plain) → target ≡ ToSink → outcome_at (run (past_of origin target n signalled xs) empty).promises (last_promise origin target n signalled) ≡ Some (Fulfilled v)
+      → IsClosedWell n (past_of origin target n signalled xs)
 
 -- from the opening of a chain on, in any run of a node
 abbrev pub EachNodeGoes : Type 0
-EachNodeGoes = (origin : Origin) (n : ℕ) (signalled : Bool) (xs : List Entry) → 2 * n + 2 ≤ most_streams → AreNodes xs → NodeGoes origin n signalled xs
+EachNodeGoes = (origin : Origin) (target : Target) (n : ℕ) (signalled : Bool) (xs : List Entry) → 2 * n + 2 ≤ most_streams → AreNodes xs → NodeGoes origin target n signalled xs
+
+-- The same of the links of any segments, and of all that enters at their sources: they stay links, and on each what the host heard, followed by what is
+-- behind it then, is what entered, or a first part of that which says so
+pub record WiringGoes (xs : List Segment) (n : ℕ) (signalled : Bool) (entries : List Entry) : Type 0 where
+  pub wired : IsWired (wiring xs nothing_made) (run entries (wired_of xs n signalled))
+  pub short : Each
+      (λ x. IsShortOf (then_told (run_heard x.into entries (wired_of xs n signalled)) (behind_on x (run entries (wired_of xs n signalled)))) (run_enters x.from entries (wired_of xs n signalled)))
+      (wiring xs nothing_made)
+
+abbrev pub EachWiringGoes : Type 0
+EachWiringGoes =
+    (xs : List Segment) (n : ℕ) (signalled : Bool) (entries : List Entry) → (behind_segments xs nothing_made).link ≡ suc n → 2 * n + 2 ≤ most_streams → AreNodes entries
+    → WiringGoes xs n signalled entries

@@ -29,7 +29,7 @@ use Rattle.ws_steps.specs.declared.calls.Event.TheVariants.{Host}
 use Rattle.ws_steps.specs.declared.calls.HostCall.{HostCall}
 use Rattle.ws_steps.specs.declared.calls.HostCall.TheVariants.{Pull, Write, Close, Flush}
 use Rattle.ws_steps.specs.Run.{Entry, Heard}
-use Rattle.ws_chain_laws.specs.Chain.{FromBytes, behind_at, call_enters, heard_at}
+use Rattle.ws_chain_laws.specs.Chain.{FromBytes, ToSink, behind_at, call_enters, heard_at}
 use Rattle.ws_chain_laws.specs.Nodes.{only_at}
 use Rattle.ws_chain_laws.proofs.Nodes.{each_event_is_heard_at_one_link, each_nodes_call_brings}
 use Rattle.ws_host_laws.specs.HostCalls.{IsItsCall, called}
@@ -155,7 +155,7 @@ module _ (rf : ℕ) (feed : Option Feed) (p q : List ℕ → Type 0) (plan : Pla
 
   -- of the sink
   module _ (call : HostCall) (t : Told Value) (event : AfterEvent plan xs a realm (Host id call))
-      (heard : (k : ℕ) → k ≤ count_of plan → heard_at (count_of plan) k (Host id call) ≡ only_at (count_of plan) t k) where
+      (heard : (k : ℕ) → k ≤ count_of plan → heard_at FromBytes ToSink (count_of plan) k (Host id call) ≡ only_at (count_of plan) t k) where
     -- once the output isn't open, nothing is said of what is behind the host without stages
     one-shut : (k : ℕ) (x : Option Abort) (o : Output) (after : AfterQuiet plan further (record was { ahead = k; abort = x; output = o }) b) → o ≢ output.Open → k ≡ a.ahead → HasOne b
     one-shut k x o after closed same = by a.stages.items refl where
@@ -194,15 +194,15 @@ module _ (rf : ℕ) (feed : Option Feed) (p q : List ℕ → Type 0) (plan : Pla
         sunk plan xs a realm since goes id call t event heard b a.ahead a.abort o after went there rf feed old new p q gain Lost gained written ahead
         (output-fails a.output gain (shows rf feed old) (shows rf feed new) is rose kept) abort (one-shut a.ahead a.abort o after (shut-shut a.output) refl)
 
-  heard-write : (v : Value) (k : ℕ) → k ≤ count_of plan → heard_at (count_of plan) k (Host id (Write a.sink v)) ≡ only_at (count_of plan) (told (v ∷ []) MayCome) k
+  heard-write : (v : Value) (k : ℕ) → k ≤ count_of plan → heard_at FromBytes ToSink (count_of plan) k (Host id (Write a.sink v)) ≡ only_at (count_of plan) (told (v ∷ []) MayCome) k
   heard-write v k less =
-      subst (λ (s : StreamId). heard_at (count_of plan) k (Host id (Write s v)) ≡ only_at (count_of plan) (told (v ∷ []) MayCome) k) (sym since.led.is_of.sink)
-      ((each_event_is_heard_at_one_link (count_of plan) k less).write id v)
+      subst (λ (s : StreamId). heard_at FromBytes ToSink (count_of plan) k (Host id (Write s v)) ≡ only_at (count_of plan) (told (v ∷ []) MayCome) k) (sym since.led.is_of.sink)
+      ((each_event_is_heard_at_one_link FromBytes ToSink (count_of plan) k less).write id v)
 
-  heard-close : (k : ℕ) → k ≤ count_of plan → heard_at (count_of plan) k (Host id (Close a.sink)) ≡ only_at (count_of plan) (told [] Closed) k
+  heard-close : (k : ℕ) → k ≤ count_of plan → heard_at FromBytes ToSink (count_of plan) k (Host id (Close a.sink)) ≡ only_at (count_of plan) (told [] Closed) k
   heard-close k less =
-      subst (λ (s : StreamId). heard_at (count_of plan) k (Host id (Close s)) ≡ only_at (count_of plan) (told [] Closed) k) (sym since.led.is_of.sink)
-      ((each_event_is_heard_at_one_link (count_of plan) k less).close id)
+      subst (λ (s : StreamId). heard_at FromBytes ToSink (count_of plan) k (Host id (Close s)) ≡ only_at (count_of plan) (told [] Closed) k) (sym since.led.is_of.sink)
+      ((each_event_is_heard_at_one_link FromBytes ToSink (count_of plan) k less).close id)
 
   module _ (piece : List ℕ) (event : AfterEvent plan xs a realm (Host id (Write a.sink (Bytes piece)))) where
     abbrev call : HostCall
@@ -211,7 +211,7 @@ module _ (rf : ℕ) (feed : Option Feed) (p q : List ℕ → Type 0) (plan : Pla
     abbrev one_told : Told Value
     one_told = told (Bytes piece ∷ []) MayCome
 
-    heard : (k : ℕ) → k ≤ count_of plan → heard_at (count_of plan) k (Host id call) ≡ only_at (count_of plan) one_told k
+    heard : (k : ℕ) → k ≤ count_of plan → heard_at FromBytes ToSink (count_of plan) k (Host id call) ≡ only_at (count_of plan) one_told k
     heard = heard-write (Bytes piece)
 
     out : (x : Told (List ℕ)) → IsShortOf (then_told (told (piece ∷ []) MayCome) (lies_to x was (count_of plan))) (lies_to x a (count_of plan))
@@ -242,7 +242,7 @@ module _ (rf : ℕ) (feed : Option Feed) (p q : List ℕ → Type 0) (plan : Pla
       by [] e = λ h.
           let none : count_of plan ≡ 0 = sym (count-works plan xs a realm since goes) ∙ (let f : length (works_in a) ≡ length a.stages.items = length-map a.stages.items (λ (w : State). w.work) in let g : length a.stages.items ≡ 0 = ap length e in omega arith) in
           let may : may_have a.stages.items a.output a.abort ≡ true = rw (e, is, near) refl in
-          let it : heard_at (count_of plan) 0 (Host id call) ≡ one_told = heard 0 (omega arith) ∙ (ap (λ (n : ℕ). only_at n one_told 0) none ∙ at-there 0 one_told) in
+          let it : heard_at FromBytes ToSink (count_of plan) 0 (Host id call) ≡ one_told = heard 0 (omega arith) ∙ (ap (λ (n : ℕ). only_at n one_told 0) none ∙ at-there 0 one_told) in
           let left_over = one-heard a.ahead (Bytes piece) (behind_at 0 realm.slots) (behind_at 0 a.realm.slots)
           (subst (λ (t : Told Value). IsShortOf (then_told t (behind_at 0 realm.slots)) (behind_at 0 a.realm.slots)) it (event.short 0 (omega arith))) (since.one may) in
           after.one b.ahead (subst (OneAtMost b.ahead) (sym left_over.0) tt)
@@ -300,7 +300,7 @@ module _ (rf : ℕ) (feed : Option Feed) (p q : List ℕ → Type 0) (plan : Pla
     closed (FinishedNot shut_already untouched asks) = refused (Close a.sink) (told [] Closed) event heard-close shut_already untouched asks
 
   -- of nothing whose bytes lie in the node
-  module _ (e : Event) (event : AfterEvent plan xs a realm e) (quiet : (k : ℕ) → k ≤ count_of plan → in_bytes (heard_at (count_of plan) k e) ≡ nothing_yet) (one : HasOne was) where
+  module _ (e : Event) (event : AfterEvent plan xs a realm e) (quiet : (k : ℕ) → k ≤ count_of plan → in_bytes (heard_at FromBytes ToSink (count_of plan) k e) ≡ nothing_yet) (one : HasOne was) where
     unheard : (k : ℕ) → k ≤ count_of plan → IsShortOf (lies_in was k) (lies_in a k)
     unheard k less = unheard-lies plan xs a realm e event goes (coming a k) k less (quiet k less)
 

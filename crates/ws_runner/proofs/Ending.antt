@@ -23,11 +23,12 @@ use Rattle.ws_end_laws.specs.PromiseEnds.{IsOpenUntilTheEnd, outcome_of_end}
 use Rattle.ws_end_laws.proofs.PromiseEnds.{each_promise_is_open_until_the_end}
 use Rattle.ws_pipe_laws.specs.PipeHistory.{is_over, run_course}
 use Rattle.ws_host_laws.specs.HostCalls.{WasSettledWell}
-use Rattle.ws_chain_laws.specs.Chain.{FromBytes, dest_of, link_of}
-use Rattle.ws_chain_laws.specs.Opening.{BeginsChain}
+use Rattle.ws_chain_laws.specs.Chain.{FromBytes, ToSink, dest_of, link_of}
+use Rattle.ws_chain_laws.specs.Opening.{BeginsChain, chained}
 use Rattle.ws_chain_laws.specs.Outcomes.{last_promise, ChainEnds}
 use Rattle.ws_chain_laws.specs.Runs.{NodeGoes}
 use Rattle.ws_chain_laws.proofs.Begins.{each_chain_begins}
+use Rattle.ws_chain_laws.proofs.Links.{link-at}
 use Rattle.ws_chain_laws.proofs.Outcomes.{each_chain_ends}
 use Rattle.ws_chain_laws.proofs.Runs.{each_node_goes}
 use Rattle.ws_realm.specs.Seen.{outcome_named, where_named}
@@ -68,7 +69,7 @@ module _ (plan : Plan) (xs : List Entry) (n : Node) (led : Led plan xs n) where
 
   -- the last pipe's promise
   abbrev promise : PromiseId
-  promise = last_promise FromBytes k signalled
+  promise = last_promise FromBytes ToSink k signalled
 
   abbrev out : Option Outcome
   out = outcome_at (run (past plan xs) empty).promises promise
@@ -76,14 +77,14 @@ module _ (plan : Plan) (xs : List Entry) (n : Node) (led : Led plan xs n) where
   few : 2 * k + 2 ≤ most_streams
   few = few-streams plan led.is_of.accepted
 
-  begins : BeginsChain FromBytes k signalled
-  begins = each_chain_begins FromBytes k signalled few
+  begins : BeginsChain FromBytes ToSink k signalled
+  begins = each_chain_begins FromBytes ToSink k signalled few
 
-  ends : ChainEnds FromBytes k signalled xs
-  ends = each_chain_ends FromBytes k signalled xs few
+  ends : ChainEnds FromBytes ToSink k signalled xs
+  ends = each_chain_ends FromBytes ToSink k signalled xs few
 
-  goes : NodeGoes FromBytes k signalled xs
-  goes = each_node_goes FromBytes k signalled xs few led.calls
+  goes : NodeGoes FromBytes ToSink k signalled xs
+  goes = each_node_goes FromBytes ToSink k signalled xs few led.calls
 
   its : n.pipe ≡ promise
   its = let a = led.answered in let b = begins.last in cc
@@ -99,18 +100,18 @@ module _ (plan : Plan) (xs : List Entry) (n : Node) (led : Led plan xs n) where
       let s : Slots = run (past plan xs) empty in
       let x = pipe_at (link_of k) s in
       let there : slice_get s.pipes k ≡ Some x =
-      subst (λ (z : Slots). slice_get z.pipes k ≡ Some (pipe_at (link_of k) z)) (sym ends.slots) (goes.chain.links k (omega arith)).there in
+      subst (λ (z : Slots). slice_get z.pipes k ≡ Some (pipe_at (link_of k) z)) (sym ends.slots) (link-at FromBytes ToSink k (run xs (chained FromBytes ToSink k signalled)) goes.chain k (omega arith)).link.there in
       settles-by x (is_over x.phase) (run_course (link_of k) (past plan xs) empty).ended out refl
       (subst (λ (p : PromiseId). IsOpenUntilTheEnd x (run_course (link_of k) (past plan xs) empty).ended (outcome_at s.promises p)) (ends.pipes k (omega arith))
       (each_promise_is_open_until_the_end (past plan xs) (link_of k) x there))
 
   finished : (v : Plain) → out ≡ Some (Fulfilled v) → n.output ≡ output.Finished
   finished v e =
-      let w : WasSettledWell (past plan xs) (Close (dest_of k)) = (goes.fulfilled v e).settled in
+      let w : WasSettledWell (past plan xs) (Close (dest_of k)) = (goes.fulfilled v refl e).settled in
       led.closes w.before w.after w.id w.settles (w.called ∙ ap (λ (i : StreamId). Some (Close i)) (sym led.is_of.sink))
 
   cause : (r : Plain) → out ≡ Some (Rejected r) → IsCause n r
-  cause r e = All-contains (IsCause n) (failures xs) r led.failed (goes.rejected r e)
+  cause r e = All-contains (IsCause n) (failures xs) r led.failed (goes.rejected r (λ clone. refl) e)
 
 -- the output was finished
 pub fulfilled : (n : Node) (v : Plain) → Driven n → outcome_of_pipe n ≡ Some (Fulfilled v) → n.output ≡ output.Finished

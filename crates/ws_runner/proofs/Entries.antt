@@ -21,7 +21,7 @@ use Rattle.ws_runner.specs.declared.node.Output.TheVariants as output
 use Rattle.ws_runner.specs.Moves.{IsAt}
 use Rattle.ws_runner.specs.Opening.{count_of, is_aborted, past}
 use Rattle.ws_runner.specs.Past.{ClosesFinished, FlushesFine, IsPull}
-use Rattle.ws_chain_laws.specs.Chain.{FromBytes}
+use Rattle.ws_chain_laws.specs.Chain.{FromBytes, ToSink}
 
 pub run-snoc : (xs : List Entry) (x : Entry) (s : Slots) → run (xs ++ x ∷ []) s ≡ step (run xs s) x
 run-snoc [] x s = refl
@@ -42,7 +42,7 @@ nodes-snoc (Heard ∷ ys) x a b = nodes-snoc ys x a b
 -- the opening stands before all
 pub past-longer : (plan : Plan) (xs more : List Entry) → past plan (xs ++ more) ≡ past plan xs ++ more
 past-longer plan xs more =
-    sym (append_assoc (opening FromBytes (count_of plan) (is_aborted plan)) (Called (piping (signal_of (is_aborted plan)) (count_of plan)) ∷ xs) more)
+    sym (append_assoc (opening FromBytes ToSink (count_of plan) (is_aborted plan)) (Called (piping (signal_of (is_aborted plan)) (count_of plan)) ∷ xs) more)
 
 -- a call of the host has the same number in a longer past
 pub called-longer : (entries more : List Entry) (id : HostId) (call : HostCall) → slice_get (called entries) id.0 ≡ Some call

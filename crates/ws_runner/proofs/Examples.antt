@@ -23,7 +23,7 @@ use Rattle.ws_steps.specs.Pipes as pipe
 use Rattle.ws_steps.specs.Transform as transform
 use Rattle.ws_steps.specs.Run.{Entry, Called, Worked, Heard, run}
 use Rattle.ws_steps.specs.Slots.{Slots, empty}
-use Rattle.ws_chain_laws.specs.Chain.{FromBytes, source_of, behind_at}
+use Rattle.ws_chain_laws.specs.Chain.{FromBytes, ToSink, source_of, behind_at}
 use Rattle.ws_chain_laws.specs.Outcomes.{past_of}
 use Rattle.ws_runner.specs.declared.node.Input.TheVariants as input
 use Rattle.ws_runner.specs.Node.{coming_by, in_bytes}
@@ -38,7 +38,7 @@ settled n = Called (Settle (record { 0 = n }) Ok)
 
 -- after these, behind the opening
 abbrev after : List Entry → Slots
-after xs = run (past_of FromBytes 1 false xs) empty
+after xs = run (past_of FromBytes ToSink 1 false xs) empty
 
 abbrev hex : State
 hex = begun Hex

@@ -7,7 +7,7 @@ use Rattle.ws_flow.specs.Told.{Open, Told, told, then_told, IsShortOf}
 use Rattle.ws_flow.proofs.Told.{then_assoc, short_same, short_right}
 use Rattle.ws_steps.specs.declared.calls.Event.{Event}
 use Rattle.ws_steps.specs.Run.{Entry}
-use Rattle.ws_chain_laws.specs.Chain.{behind_at, heard_at}
+use Rattle.ws_chain_laws.specs.Chain.{FromBytes, ToSink, behind_at, heard_at}
 use Rattle.ws_link_laws.specs.Link.{silence}
 use Rattle.ws_realm.specs.Seen.{SeenRealm}
 use Rattle.ws_realm.specs.declared.realm.Why.{Why}
@@ -42,14 +42,14 @@ one-heard n v x y h o = by v (one-short n (then_told (told (v ∷ []) Open) x) y
 module _ (plan : Plan) (xs : List Entry) (a : Node) (realm : SeenRealm) (e : Event) (after : AfterEvent plan xs a realm e) (goes : a.stopped ≡ None) where
   -- what is heard lay first
   pub heard-lies : (t : Told (List ℕ)) (k : ℕ) → k ≤ count_of plan
-      → IsShortOf (then_told (in_bytes (heard_at (count_of plan) k e)) (lies_to t (with_realm realm a) k)) (lies_to t a k)
+      → IsShortOf (then_told (in_bytes (heard_at FromBytes ToSink (count_of plan) k e)) (lies_to t (with_realm realm a) k)) (lies_to t a k)
   heard-lies t k less =
-      subst (λ (why : Option Why). IsShortOf (then_told (in_bytes (heard_at (count_of plan) k e)) (lying_by why (then_told (in_bytes (behind_at k realm.slots)) t)))
+      subst (λ (why : Option Why). IsShortOf (then_told (in_bytes (heard_at FromBytes ToSink (count_of plan) k e)) (lying_by why (then_told (in_bytes (behind_at k realm.slots)) t)))
       (lying_by why (then_told (in_bytes (behind_at k a.realm.slots)) t))) (sym goes)
-      (heard_short (heard_at (count_of plan) k e) (behind_at k realm.slots) (behind_at k a.realm.slots) t (after.short k less))
+      (heard_short (heard_at FromBytes ToSink (count_of plan) k e) (behind_at k realm.slots) (behind_at k a.realm.slots) t (after.short k less))
 
   -- so what lies there is short of that where nothing of bytes is heard
-  pub unheard-lies : (t : Told (List ℕ)) (k : ℕ) → k ≤ count_of plan → in_bytes (heard_at (count_of plan) k e) ≡ nothing_yet
+  pub unheard-lies : (t : Told (List ℕ)) (k : ℕ) → k ≤ count_of plan → in_bytes (heard_at FromBytes ToSink (count_of plan) k e) ≡ nothing_yet
       → IsShortOf (lies_to t (with_realm realm a) k) (lies_to t a k)
   unheard-lies t k less quiet =
       subst (λ q. IsShortOf (then_told q (lies_to t (with_realm realm a) k)) (lies_to t a k)) quiet (heard-lies t k less)

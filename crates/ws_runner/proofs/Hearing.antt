@@ -30,7 +30,7 @@ use Rattle.ws_steps.specs.declared.calls.HostCall.{HostCall}
 use Rattle.ws_steps.specs.declared.calls.HostCall.TheVariants.{Start, Pull, Cancel, Write, Close, Abort, Transform, Flush, CancelTransform}
 use Rattle.ws_steps.specs.Histories.{is_same}
 use Rattle.ws_steps.specs.Run.{Entry, Heard, first_event, after_event}
-use Rattle.ws_chain_laws.specs.Chain.{dest_of, behind_at, ear_of, heard_at}
+use Rattle.ws_chain_laws.specs.Chain.{FromBytes, ToSink, dest_of, behind_at, ear_of, heard_at}
 use Rattle.ws_chain_laws.specs.Nodes.{only_at}
 use Rattle.ws_chain_laws.proofs.Nodes.{each_event_is_heard_at_one_link}
 use Rattle.ws_link_laws.specs.Link.{silence, is_sink, is_half}
@@ -71,7 +71,7 @@ fits (Unframe k) n l = tt
 
 module _ (plan : Plan) (xs : List Entry) (a : Node) (realm : SeenRealm) (since : Since plan xs a) (goes : a.stopped ≡ None) (id : HostId) where
   -- the one chunk on the first link is that which was counted
-  one-counted : (call : HostCall) (piece : List ℕ) → AfterEvent plan xs a realm (Host id call) → heard_at (count_of plan) 0 (Host id call) ≡ told (Bytes piece ∷ []) Open
+  one-counted : (call : HostCall) (piece : List ℕ) → AfterEvent plan xs a realm (Host id call) → heard_at FromBytes ToSink (count_of plan) 0 (Host id call) ≡ told (Bytes piece ∷ []) Open
       → may_have a.stages.items a.output a.abort ≡ true → length piece ≤ a.ahead
   one-counted call piece event is may =
       let o = one-heard a.ahead (Bytes piece) (behind_at 0 realm.slots) (behind_at 0 a.realm.slots)
@@ -80,12 +80,12 @@ module _ (plan : Plan) (xs : List Entry) (a : Node) (realm : SeenRealm) (since :
       omega arith
 
   heard-stage : (i : StreamId) (before after : List State) (w : State) (v : Value) → IsAt i a.stages.items before w after
-      → heard_at (count_of plan) (length before) (Host id (Transform i v)) ≡ told (v ∷ []) Open
+      → heard_at FromBytes ToSink (count_of plan) (length before) (Host id (Transform i v)) ≡ told (v ∷ []) Open
   heard-stage i before after w v at =
       let e = count-is plan a before after w goes since.led.is_of.stages at.whole in
       let j = length before in
-      subst (λ (s : StreamId). heard_at (count_of plan) j (Host id (Transform s v)) ≡ told (v ∷ []) Open) (sym at.place)
-      ((each_event_is_heard_at_one_link (count_of plan) j (omega arith)).transform id j v (omega arith) ∙ at-there j (told (v ∷ []) Open))
+      subst (λ (s : StreamId). heard_at FromBytes ToSink (count_of plan) j (Host id (Transform s v)) ≡ told (v ∷ []) Open) (sym at.place)
+      ((each_event_is_heard_at_one_link FromBytes ToSink (count_of plan) j (omega arith)).transform id j v (omega arith) ∙ at-there j (told (v ∷ []) Open))
 
   -- a chunk that comes to a stage which may be asked is below 2^25 bytes
   stage-short : (i : StreamId) (piece : List ℕ) (before after : List State) (w : State) → IsAt i a.stages.items before w after → IsLive w.work
@@ -114,8 +114,8 @@ module _ (plan : Plan) (xs : List Entry) (a : Node) (realm : SeenRealm) (since :
         let w : HostCall = Write a.sink (Bytes piece) in
         let zero_is : n ≡ 0 = sym (count-works plan xs a realm since goes)
         ∙ (let f : length (works_in a) ≡ length a.stages.items = length-map a.stages.items (λ (u : State). u.work) in let g : length a.stages.items ≡ 0 = ap length none in omega arith) in
-        let heard : heard_at n 0 (Host id w) ≡ told (Bytes piece ∷ []) Open =
-        subst (λ (s : StreamId). heard_at n 0 (Host id (Write s (Bytes piece))) ≡ only_at n (told (Bytes piece ∷ []) Open) 0) (sym since.led.is_of.sink) ((each_event_is_heard_at_one_link n 0 (omega arith)).write id (Bytes piece))
+        let heard : heard_at FromBytes ToSink n 0 (Host id w) ≡ told (Bytes piece ∷ []) Open =
+        subst (λ (s : StreamId). heard_at FromBytes ToSink n 0 (Host id (Write s (Bytes piece))) ≡ only_at n (told (Bytes piece ∷ []) Open) 0) (sym since.led.is_of.sink) ((each_event_is_heard_at_one_link FromBytes ToSink n 0 (omega arith)).write id (Bytes piece))
         ∙ (ap (λ (k : ℕ). only_at k (told (Bytes piece ∷ []) Open) 0) zero_is ∙ at-there 0 (told (Bytes piece ∷ []) Open)) in
         one-counted w piece (subst (λ (c : HostCall). AfterEvent plan xs a realm (Host id c)) is event) heard (rw (none, opened, near) refl);
     had = λ i piece is after w at live.
@@ -156,16 +156,16 @@ not-the-sink : (s i : StreamId) → is_same s i ≡ false → Close i ≡ Close 
 not-the-sink s i e f = let g : i ≡ s = grind arith in absurd (let h : is_same i i ≡ false = subst (λ z. is_same z i ≡ false) (sym g) e in let k = is_same-refl i in cc)
 
 module _ (n k : ℕ) (id : HostId) (i : StreamId) (other : is_same (dest_of n) i ≡ false) where
-  ear-other : is_sink (ear_of n k) i ≡ false
+  ear-other : is_sink (ear_of FromBytes ToSink n k) i ≡ false
   ear-other = by (nat_eq k n) refl where
-    by : (b : Bool) → nat_eq k n ≡ b → is_sink (ear_of n k) i ≡ false
+    by : (b : Bool) → nat_eq k n ≡ b → is_sink (ear_of FromBytes ToSink n k) i ≡ false
     by true e = rw e (subst (λ (j : ℕ). is_same (dest_of j) i ≡ false) (sym (eq_numbers k n e)) other)
     by false e = rw e refl
 
-  no-write : (v : Value) → heard_at n k (Host id (Write i v)) ≡ silence
+  no-write : (v : Value) → heard_at FromBytes ToSink n k (Host id (Write i v)) ≡ silence
   no-write v = rw ear-other refl
 
-  no-close : heard_at n k (Host id (Close i)) ≡ silence
+  no-close : heard_at FromBytes ToSink n k (Host id (Close i)) ≡ silence
   no-close = rw ear-other refl
 
 module _ (rf : ℕ) (feed : Option Feed) (p q : List ℕ → Type 0) (plan : Plan) (xs : List Entry) (a : Node) (realm : SeenRealm) (b : Node) (old new : Shown) (since : Since plan xs a)
@@ -176,20 +176,20 @@ module _ (rf : ℕ) (feed : Option Feed) (p q : List ℕ → Type 0) (plan : Pla
   abbrev Done : Type 0
   Done = Handled plan a b (shows rf feed old) (shows rf feed new) p q
 
-  one-was : (e : Event) → AfterEvent plan xs a realm e → heard_at (count_of plan) 0 e ≡ silence → HasOne was
-  one-was e event quiet h = one-quiet a.ahead (heard_at (count_of plan) 0 e) (behind_at 0 realm.slots) (behind_at 0 a.realm.slots) quiet (event.short 0 (omega arith)) (since.one h)
+  one-was : (e : Event) → AfterEvent plan xs a realm e → heard_at FromBytes ToSink (count_of plan) 0 e ≡ silence → HasOne was
+  one-was e event quiet h = one-quiet a.ahead (heard_at FromBytes ToSink (count_of plan) 0 e) (behind_at 0 realm.slots) (behind_at 0 a.realm.slots) quiet (event.short 0 (omega arith)) (since.one h)
 
   -- of the node it tells nothing
-  told-only : (id : HostId) (e : Event) → AfterEvent plan xs a realm e → ((k : ℕ) → k ≤ count_of plan → heard_at (count_of plan) k e ≡ silence) → b ≡ was → Untouched old new p q → Done
+  told-only : (id : HostId) (e : Event) → AfterEvent plan xs a realm e → ((k : ℕ) → k ≤ count_of plan → heard_at FromBytes ToSink (count_of plan) k e ≡ silence) → b ≡ was → Untouched old new p q → Done
   told-only id e event quiet same untouched =
       noted rf feed p q plan xs a realm id b old new since goes e event (λ k less. ap in_bytes (quiet k less)) (one-was e event (quiet 0 (omega arith))) same untouched
 
   module _ (id : HostId) (call : HostCall) (event : AfterEvent plan xs a realm (Host id call)) where
-    at-once : ((k : ℕ) → k ≤ count_of plan → heard_at (count_of plan) k (Host id call) ≡ silence) → (call ≡ Close a.sink → ⊥) → ((s : StreamId) → call ≡ Flush s → ⊥) → Settles id was b old new p q → Done
+    at-once : ((k : ℕ) → k ≤ count_of plan → heard_at FromBytes ToSink (count_of plan) k (Host id call) ≡ silence) → (call ≡ Close a.sink → ⊥) → ((s : StreamId) → call ≡ Flush s → ⊥) → Settles id was b old new p q → Done
     at-once quiet other flush h =
         settled rf feed p q plan xs a realm id b old new since goes (Host id call) event (λ k less. ap in_bytes (quiet k less)) (one-was (Host id call) event (quiet 0 (omega arith))) call refl other flush h
 
-    pull-waits : (i : StreamId) → call ≡ Pull i → ((k : ℕ) → k ≤ count_of plan → heard_at (count_of plan) k (Host id call) ≡ silence) → b ≡ record was { asked = Some id } → Untouched old new p q → Done
+    pull-waits : (i : StreamId) → call ≡ Pull i → ((k : ℕ) → k ≤ count_of plan → heard_at FromBytes ToSink (count_of plan) k (Host id call) ≡ silence) → b ≡ record was { asked = Some id } → Untouched old new p q → Done
     pull-waits i is quiet same untouched =
         pulled rf feed p q plan xs a realm id b old new since goes (Host id call) event (λ k less. ap in_bytes (quiet k less)) (one-was (Host id call) event (quiet 0 (omega arith))) i
         (ap (λ (c : HostCall). let e : Event = Host id c in e) is) same untouched
@@ -198,14 +198,14 @@ module _ (rf : ℕ) (feed : Option Feed) (p q : List ℕ → Type 0) (plan : Pla
   module _ (id : HostId) (i : StreamId) (v : Plain) where
     plain-written : AfterEvent plan xs a realm (Host id (Write i (PlainValue v))) → Settles id was b old new p q → Done
     plain-written event h =
-        settled rf feed p q plan xs a realm id b old new since goes (Host id (Write i (PlainValue v))) event (λ k less. plain-bytes v (is_sink (ear_of (count_of plan) k) i))
-        (λ o. plain-one a.ahead v (is_sink (ear_of (count_of plan) 0) i) (behind_at 0 realm.slots) (behind_at 0 a.realm.slots) (event.short 0 (omega arith)) (since.one o))
+        settled rf feed p q plan xs a realm id b old new since goes (Host id (Write i (PlainValue v))) event (λ k less. plain-bytes v (is_sink (ear_of FromBytes ToSink (count_of plan) k) i))
+        (λ o. plain-one a.ahead v (is_sink (ear_of FromBytes ToSink (count_of plan) 0) i) (behind_at 0 realm.slots) (behind_at 0 a.realm.slots) (event.short 0 (omega arith)) (since.one o))
         (Write i (PlainValue v)) refl (λ f. cc) (λ s f. cc) h
 
     plain-transformed : AfterEvent plan xs a realm (Host id (Transform i (PlainValue v))) → Settles id was b old new p q → Done
     plain-transformed event h =
-        settled rf feed p q plan xs a realm id b old new since goes (Host id (Transform i (PlainValue v))) event (λ k less. plain-bytes v (is_half (ear_of (count_of plan) k) i))
-        (λ o. plain-one a.ahead v (is_half (ear_of (count_of plan) 0) i) (behind_at 0 realm.slots) (behind_at 0 a.realm.slots) (event.short 0 (omega arith)) (since.one o))
+        settled rf feed p q plan xs a realm id b old new since goes (Host id (Transform i (PlainValue v))) event (λ k less. plain-bytes v (is_half (ear_of FromBytes ToSink (count_of plan) k) i))
+        (λ o. plain-one a.ahead v (is_half (ear_of FromBytes ToSink (count_of plan) 0) i) (behind_at 0 realm.slots) (behind_at 0 a.realm.slots) (event.short 0 (omega arith)) (since.one o))
         (Transform i (PlainValue v)) refl (λ f. cc) (λ s f. cc) h
 
   other-sink : (i : StreamId) → is_same a.sink i ≡ false → is_same (dest_of (count_of plan)) i ≡ false
@@ -241,7 +241,7 @@ module _ (rf : ℕ) (feed : Option Feed) (p q : List ℕ → Type 0) (plan : Pla
   heard-of (Host id call) event h = answered id call event h
   heard-of (Settled d) event h = told-only (record { 0 = 0 }) (Settled d) event (λ k less. refl) h.0 h.1
   heard-of (Signal i r) event h = told-only (record { 0 = 0 }) (Signal i r) event (λ k less. refl) h.0 h.1
-  heard-of (Post c m) event h = told-only (record { 0 = 0 }) (Post c m) event (λ k less. (each_event_is_heard_at_one_link (count_of plan) k less).post c m) h.0 h.1
+  heard-of (Post c m) event h = told-only (record { 0 = 0 }) (Post c m) event (λ k less. (each_event_is_heard_at_one_link FromBytes ToSink (count_of plan) k less).post_elsewhere c m refl) h.0 h.1
 
 pub hears : (rf : ℕ) (feed : Option Feed) (p q : List ℕ → Type 0) (plan : Plan) (xs : List Entry) (a : Node) (realm : SeenRealm) (e : Event) (b : Node) (old new : Shown)
     → Since plan xs a → a.stopped ≡ None → first_event a.realm.slots.promises.events ≡ Some e → realm.slots ≡ after_event a.realm.slots

@@ -27,7 +27,7 @@ use Rattle.ws_steps.specs.Slots.{Slots, empty, most_streams}
 use Rattle.ws_laws.proofs.Ages.{each_age_counts}
 use Rattle.ws_host_laws.specs.HostCalls.{settles_well}
 use Rattle.ws_link_laws.specs.Link.{silence}
-use Rattle.ws_chain_laws.specs.Chain.{FromBytes, behind_at}
+use Rattle.ws_chain_laws.specs.Chain.{FromBytes, ToSink, behind_at}
 use Rattle.ws_chain_laws.specs.Opening.{BeginsChain, transforms, streams, signals, signal_of, pipes_from, piping, opening, opened, chained}
 use Rattle.ws_chain_laws.specs.Outcomes.{past_of}
 use Rattle.ws_chain_laws.proofs.Begins.{each_chain_begins}
@@ -131,10 +131,10 @@ pipes-open : (k n : ℕ) → are_open (pipes_from k n) ≡ true
 pipes-open k zero = refl
 pipes-open k (suc n) = pipes-open (suc k) n
 
-past-open : (n : ℕ) (signalled : Bool) → are_open (past_of FromBytes n signalled []) ≡ true
+past-open : (n : ℕ) (signalled : Bool) → are_open (past_of FromBytes ToSink n signalled []) ≡ true
 past-open n signalled =
-    open-append (opening FromBytes n signalled) (Called (piping (signal_of signalled) n) ∷ [])
-    (open-append (streams FromBytes n) (signals signalled ++ pipes_from 0 n) (open-append (transforms n) _ (transforms-open n) refl)
+    open-append (opening FromBytes ToSink n signalled) (Called (piping (signal_of signalled) n) ∷ [])
+    (open-append (streams FromBytes ToSink n) (signals signalled ++ pipes_from 0 n) (open-append (transforms n) _ (transforms-open n) refl)
     (open-append (signals signalled) (pipes_from 0 n) (signals-open signalled) (pipes-open 0 n)))
     refl
 
@@ -172,14 +172,14 @@ young-by : (n age all opened made rest some t s p : ℕ) → age ≡ 0 + all →
     → t ≡ n → s ≤ 1 → p ≡ n → IsYoung n age
 young-by n age all opened made rest some t s p a b c d e f g h i = record { some = omega arith; few = omega arith }
 
-young : (n : ℕ) (signalled : Bool) → IsYoung n (run (past_of FromBytes n signalled []) empty).age
+young : (n : ℕ) (signalled : Bool) → IsYoung n (run (past_of FromBytes ToSink n signalled []) empty).age
 young n signalled =
     let sink = Called (MakeWritable 1 Count Now) ∷ [] in
     let last = Called (piping (signal_of signalled) n) ∷ [] in
     let rest = signals signalled ++ pipes_from 0 n in
-    young-by n (run (past_of FromBytes n signalled []) empty).age (performed_in (past_of FromBytes n signalled [])) (performed_in (opening FromBytes n signalled)) (performed_in (streams FromBytes n)) (performed_in rest)
+    young-by n (run (past_of FromBytes ToSink n signalled []) empty).age (performed_in (past_of FromBytes ToSink n signalled [])) (performed_in (opening FromBytes ToSink n signalled)) (performed_in (streams FromBytes ToSink n)) (performed_in rest)
     (performed_in (transforms n ++ sink)) (performed_in (transforms n)) (performed_in (signals signalled)) (performed_in (pipes_from 0 n))
-    (each_age_counts empty (past_of FromBytes n signalled [])) (performed-append (opening FromBytes n signalled) last) (performed-append (streams FromBytes n) rest) refl (performed-append (transforms n) sink)
+    (each_age_counts empty (past_of FromBytes ToSink n signalled [])) (performed-append (opening FromBytes ToSink n signalled) last) (performed-append (streams FromBytes ToSink n) rest) refl (performed-append (transforms n) sink)
     (performed-append (signals signalled) (pipes_from 0 n)) (transforms-performed n) (signals-performed signalled) (pipes-performed 0 n)
 
 -- a plan's limit
@@ -200,11 +200,11 @@ module _ (plan : Plan) (n : Node) (is_accepted : IsAccepted plan) (f : IsFresh p
   few : 2 * k + 2 ≤ most_streams
   few = few-streams plan is_accepted
 
-  begins : BeginsChain FromBytes k signalled
-  begins = each_chain_begins FromBytes k signalled few
+  begins : BeginsChain FromBytes ToSink k signalled
+  begins = each_chain_begins FromBytes ToSink k signalled few
 
-  slots-are : n.realm.slots ≡ chained FromBytes k signalled
-  slots-are = f.slots ∙ (each_chain_ends FromBytes k signalled [] few).slots
+  slots-are : n.realm.slots ≡ chained FromBytes ToSink k signalled
+  slots-are = f.slots ∙ (each_chain_ends FromBytes ToSink k signalled [] few).slots
 
   nothing-behind : (j : ℕ) → j ≤ k → behind_at j n.realm.slots ≡ silence
   nothing-behind j l = ap (behind_at j) slots-are ∙ begins.none j l

@@ -22,7 +22,7 @@ use Rattle.ws_steps.specs.declared.calls.Event.TheVariants.{Host}
 use Rattle.ws_steps.specs.declared.calls.HostCall.{HostCall}
 use Rattle.ws_steps.specs.declared.calls.HostCall.TheVariants.{Transform, Flush}
 use Rattle.ws_steps.specs.Run.{Entry, Heard}
-use Rattle.ws_chain_laws.specs.Chain.{behind_at, heard_at}
+use Rattle.ws_chain_laws.specs.Chain.{FromBytes, ToSink, behind_at, heard_at}
 use Rattle.ws_chain_laws.specs.Nodes.{only_at}
 use Rattle.ws_chain_laws.proofs.Nodes.{each_event_is_heard_at_one_link}
 use Rattle.ws_link_laws.specs.Link.{silence}
@@ -118,7 +118,7 @@ module _ (plan : Plan) (xs : List Entry) (a : Node) (realm : SeenRealm) (id : Ho
 
   -- an event at a stage
   module _ (before after : List State) (w : State) (at : IsAt i a.stages.items before w after) (call : HostCall) (t : Told Value) (event : AfterEvent plan xs a realm (Host id call))
-      (heard : (k : ℕ) → k ≤ count_of plan → heard_at (count_of plan) k (Host id call) ≡ only_at (length before) t k) where
+      (heard : (k : ℕ) → k ≤ count_of plan → heard_at FromBytes ToSink (count_of plan) k (Host id call) ≡ only_at (length before) t k) where
     count : count_of plan ≡ length before + suc (length after)
     count = count-is plan a before after w goes since.led.is_of.stages at.whole
 
@@ -143,14 +143,14 @@ module _ (plan : Plan) (xs : List Entry) (a : Node) (realm : SeenRealm) (id : Ho
     -- with the first link, where the stage isn't the first
     one-elsewhere : 0 ≢ length before → (n : ℕ) → OneAtMost n (behind_at 0 a.realm.slots).items → OneAtMost n (behind_at 0 realm.slots).items
     one-elsewhere other n o =
-        one-quiet n (heard_at (count_of plan) 0 (Host id call)) (behind_at 0 realm.slots) (behind_at 0 a.realm.slots) (heard 0 first_is ∙ at-elsewhere (length before) 0 t other)
+        one-quiet n (heard_at FromBytes ToSink (count_of plan) 0 (Host id call)) (behind_at 0 realm.slots) (behind_at 0 a.realm.slots) (heard 0 first_is ∙ at-elsewhere (length before) 0 t other)
         (event.short 0 first_is) o
 
     -- the stage is over
     over-on : (IsLive w.work → ⊥) → Handled plan a was m m p q
     over-on not_live =
         rested (Host id call) event
-        (one-ended before after w w t (heard_at (count_of plan) 0 (Host id call)) was at.whole at.whole not_live (λ u us e. refl) (heard 0 first_is) (event.short 0 first_is) (λ n o. o))
+        (one-ended before after w w t (heard_at FromBytes ToSink (count_of plan) 0 (Host id call)) was at.whole at.whole not_live (λ u us e. refl) (heard 0 first_is) (event.short 0 first_is) (λ n o. o))
         (over-goes plan a before after w goes since.led.is_of.stages at.whole was w refl at.whole not_live refl (λ k less other. unheard-there (coming was k) k less other))
 
     -- the stage was asked
@@ -199,7 +199,7 @@ module _ (plan : Plan) (xs : List Entry) (a : Node) (realm : SeenRealm) (id : Ho
             xs = xs ++ Heard ∷ [];
             led = subst (Led plan (xs ++ Heard ∷ [])) (sym ends) (led-stopped plan (xs ++ Heard ∷ []) c why.NoMemory (λ e. absurd (cc)) led);
             pushes = λ e. absurd (let f : Some why.NoMemory ≡ None = sym stopped ∙ e in cc);
-            one = one-ended before after w v t (heard_at (count_of plan) 0 (Host id call)) b at.whole (b-items only) (λ l. subst IsLive over l)
+            one = one-ended before after w v t (heard_at FromBytes ToSink (count_of plan) 0 (Host id call)) b at.whole (b-items only) (λ l. subst IsLive over l)
                 (λ u us e. b-ahead only ∙ ahead u us e) (heard 0 first_is) (event.short 0 first_is)
                 (λ n o. subst (λ (z : Node). OneAtMost n (behind_at 0 z.realm.slots).items) (sym ends) (subst (λ (z : Node). OneAtMost n (behind_at 0 z.realm.slots).items) (sym is) o));
             went = went-on only (stopped-goes plan a before after w goes since.led.is_of.stages at.whole b v (b-input only) (b-items only) why.NoMemory live over stopped);
@@ -235,26 +235,26 @@ module _ (plan : Plan) (xs : List Entry) (a : Node) (realm : SeenRealm) (id : Ho
         on some one goes_on = record { xs = (xs ++ Heard ∷ []) ++ all.more; led = all.led; pushes = pushes-on some; one = one; went = went-on all.only goes_on }
 
   heard-transform : (before after : List State) (w : State) → IsAt i a.stages.items before w after → (v : Value) (k : ℕ) → k ≤ count_of plan
-      → heard_at (count_of plan) k (Host id (Transform i v)) ≡ only_at (length before) (told (v ∷ []) Open) k
+      → heard_at FromBytes ToSink (count_of plan) k (Host id (Transform i v)) ≡ only_at (length before) (told (v ∷ []) Open) k
   heard-transform before after w at v k less =
       let e = count-is plan a before after w goes since.led.is_of.stages at.whole in
-      subst (λ (s : StreamId). heard_at (count_of plan) k (Host id (Transform s v)) ≡ only_at (length before) (told (v ∷ []) Open) k) (sym at.place)
-      ((each_event_is_heard_at_one_link (count_of plan) k less).transform id (length before) v (omega arith))
+      subst (λ (s : StreamId). heard_at FromBytes ToSink (count_of plan) k (Host id (Transform s v)) ≡ only_at (length before) (told (v ∷ []) Open) k) (sym at.place)
+      ((each_event_is_heard_at_one_link FromBytes ToSink (count_of plan) k less).transform id (length before) v (omega arith))
 
   heard-flush : (before after : List State) (w : State) → IsAt i a.stages.items before w after → (k : ℕ) → k ≤ count_of plan
-      → heard_at (count_of plan) k (Host id (Flush i)) ≡ only_at (length before) (told [] Closed) k
+      → heard_at FromBytes ToSink (count_of plan) k (Host id (Flush i)) ≡ only_at (length before) (told [] Closed) k
   heard-flush before after w at k less =
       let e = count-is plan a before after w goes since.led.is_of.stages at.whole in
-      subst (λ (s : StreamId). heard_at (count_of plan) k (Host id (Flush s)) ≡ only_at (length before) (told [] Closed) k) (sym at.place)
-      ((each_event_is_heard_at_one_link (count_of plan) k less).flush id (length before) (omega arith))
+      subst (λ (s : StreamId). heard_at FromBytes ToSink (count_of plan) k (Host id (Flush s)) ≡ only_at (length before) (told [] Closed) k) (sym at.place)
+      ((each_event_is_heard_at_one_link FromBytes ToSink (count_of plan) k less).flush id (length before) (omega arith))
 
-  no-stage : (e : Event) → AfterEvent plan xs a realm e → ((k : ℕ) → k ≤ count_of plan → heard_at (count_of plan) k e ≡ silence) → Handled plan a was m m p q
+  no-stage : (e : Event) → AfterEvent plan xs a realm e → ((k : ℕ) → k ≤ count_of plan → heard_at FromBytes ToSink (count_of plan) k e ≡ silence) → Handled plan a was m m p q
   no-stage e event quiet =
       record {
         xs = xs ++ Heard ∷ [];
         led = event.led;
         pushes = λ h. subst (λ (n : ℕ). ArePushed n a.stages.items) (sym event.age) (since.pushes goes);
-        one = λ h. one-quiet a.ahead (heard_at (count_of plan) 0 e) (behind_at 0 realm.slots) (behind_at 0 a.realm.slots) (quiet 0 (omega arith)) (event.short 0 (omega arith)) (since.one h);
+        one = λ h. one-quiet a.ahead (heard_at FromBytes ToSink (count_of plan) 0 e) (behind_at 0 realm.slots) (behind_at 0 a.realm.slots) (quiet 0 (omega arith)) (event.short 0 (omega arith)) (since.one h);
         went = went-rests plan a was m p q gained (going-stays a was goes) since.led.is_of.stages (record { realm = realm; stopped = a.stopped; is = refl })
             (λ k less. unheard-lies plan xs a realm e event goes (coming a k) k less (ap in_bytes (quiet k less)));
       }
@@ -283,7 +283,7 @@ module _ (plan : Plan) (xs : List Entry) (a : Node) (realm : SeenRealm) (id : Ho
       let all = subst (λ (cs : List (List ℕ)). AfterAll plan past' (length before) cs c b) answers.chunks (puts-all plan past' (length before) id i pushed c b less at.place led may puts) in
       let t = told (Bytes piece ∷ []) Open in
       on before after w at call t event heard v c h.0 is has.items stage by.chunks all (omega (arith, pushes))
-      (one-pushed before after w v piece (heard_at (count_of plan) 0 (Host id call)) at.whole (b-items before after w at call t event heard v c h.0 is has.items stage all.only) live
+      (one-pushed before after w v piece (heard_at FromBytes ToSink (count_of plan) 0 (Host id call)) at.whole (b-items before after w at call t event heard v c h.0 is has.items stage all.only) live
       (ahead-now c b n all.only has.is) (heard 0 (omega arith)) (event.short 0 (omega arith))
       (one-from before after w at call t event heard v c h.0 is has.items stage by.chunks all))
       (pushed-goes plan a before after w goes since.led.is_of.stages at.whole b v (b-input before after w at call t event heard v c h.0 is has.items stage all.only)
@@ -323,7 +323,7 @@ module _ (plan : Plan) (xs : List Entry) (a : Node) (realm : SeenRealm) (id : Ho
       ap (λ (x : State). x.work) (the-stage s z.stages.items before after v (sym (flush-same i s e) ∙ at.place) items first last u there) ∙ flushed-over v.work by.ending flushed.ending Fine answers.over answers.ending fine) in
       let all = subst (λ (cs : List (List ℕ)). AfterAll plan past' (length before) cs c b) answers.chunks (puts-all plan past' (length before) id i flushed c b less at.place led may puts) in
       on before after w at call t event heard v c a.ahead has.is has.items stage by.chunks all (omega (arith, pushes))
-      (one-ended before after w v t (heard_at (count_of plan) 0 (Host id call)) b at.whole (b-items before after w at call t event heard v c a.ahead has.is has.items stage all.only)
+      (one-ended before after w v t (heard_at FromBytes ToSink (count_of plan) 0 (Host id call)) b at.whole (b-items before after w at call t event heard v c a.ahead has.is has.items stage all.only)
       (λ l. subst IsLive answers.over l) (λ u us e. ahead-now c b was all.only has.is) (heard 0 (omega arith)) (event.short 0 (omega arith))
       (one-from before after w at call t event heard v c a.ahead has.is has.items stage by.chunks all))
       (flushed-goes plan a before after w goes since.led.is_of.stages at.whole b v (b-input before after w at call t event heard v c a.ahead has.is has.items stage all.only)

@@ -33,7 +33,7 @@ use Rattle.ws_steps.specs.Run.{Entry, Called}
 use Rattle.ws_host_laws.specs.HostCalls.{called, settles_well}
 use Rattle.ws_host_laws.proofs.Called.{each_event_is_its_call}
 use Rattle.ws_link_laws.specs.Link.{silence}
-use Rattle.ws_chain_laws.specs.Chain.{FromBytes, behind_at, call_enters}
+use Rattle.ws_chain_laws.specs.Chain.{FromBytes, ToSink, behind_at, call_enters}
 use Rattle.ws_chain_laws.specs.Opening.{opening, piping, signal_of}
 use Rattle.ws_chain_laws.specs.Nodes.{only_at}
 use Rattle.ws_chain_laws.proofs.Nodes.{each_nodes_call_brings}
@@ -97,7 +97,7 @@ called-on entries more id call h =
     subst (λ q. slice_get q id.0 ≡ Some call) (sym g.1) (get-front (called entries) g.0 id.0 call h)
 
 past-on : (plan : Plan) (xs more : List Entry) → past plan (xs ++ more) ≡ past plan xs ++ more
-past-on plan xs more = sym (append_assoc (opening FromBytes (count_of plan) (is_aborted plan)) (Called (piping (signal_of (is_aborted plan)) (count_of plan)) ∷ xs) more)
+past-on plan xs more = sym (append_assoc (opening FromBytes ToSink (count_of plan) (is_aborted plan)) (Called (piping (signal_of (is_aborted plan)) (count_of plan)) ∷ xs) more)
 
 call-on : (plan : Plan) (xs more : List Entry) (id : HostId) (call : HostCall) → slice_get (called (past plan xs)) id.0 ≡ Some call
     → slice_get (called (past plan (xs ++ more))) id.0 ≡ Some call

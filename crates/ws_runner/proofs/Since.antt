@@ -33,7 +33,7 @@ use Rattle.ws_laws.proofs.Ages.{called-age, each_age_counts}
 use Rattle.ws_host_laws.specs.HostCalls.{called, settles_well, AllEvents, IsItsCall}
 use Rattle.ws_host_laws.proofs.Called.{each_event_is_its_call}
 use Rattle.ws_link_laws.specs.Link.{silence}
-use Rattle.ws_chain_laws.specs.Chain.{FromBytes, transform_of, source_of, behind_at, IsChain, LeavesChain, call_enters, heard_at}
+use Rattle.ws_chain_laws.specs.Chain.{FromBytes, ToSink, transform_of, source_of, behind_at, IsChain, LeavesChain, call_enters, heard_at}
 use Rattle.ws_chain_laws.specs.Laws.{next_enters, next_heard, KeepsBehind}
 use Rattle.ws_chain_laws.specs.Opening.{opening, piping, signal_of}
 use Rattle.ws_chain_laws.specs.Outcomes.{JobBrings, Flushes, BringsNothing, BringsTheEnd}
@@ -41,8 +41,8 @@ use Rattle.ws_chain_laws.specs.Runs.{IsNodes, AreNodes}
 use Rattle.ws_chain_laws.proofs.Begins.{run-append}
 use Rattle.ws_chain_laws.proofs.Flushed.{each_end_was_flushed}
 use Rattle.ws_chain_laws.proofs.Keeps.{each_call_keeps_chain, each_job_keeps_chain, each_event_keeps_chain}
-use Rattle.ws_chain_laws.proofs.Nodes.{each_nodes_call_leaves}
-use Rattle.ws_chain_laws.proofs.Runs.{each_node_goes}
+use Rattle.ws_chain_laws.proofs.Links.{link-at}
+use Rattle.ws_chain_laws.proofs.Runs.{nodes-leave, each_node_goes}
 use Rattle.ws_realm.specs.Seen.{SeenRealm, oldest}
 use Rattle.ws_realm.specs.declared.realm.Why.{Why}
 use Rattle.ws_realm.specs.declared.realm.Why.TheVariants.{Spent}
@@ -62,11 +62,11 @@ use Rattle.ws_runner.proofs.Entries.{run-snoc, failures-snoc, nodes-snoc, past-l
 pub led-few : (plan : Plan) → IsAccepted plan → 2 * count_of plan + 2 ≤ most_streams
 led-few plan h = let a : length (stages_of plan) ≤ 16 = (accepted plan h).stages in omega (arith, a)
 
-pub led-chain : (plan : Plan) (xs : List Entry) (n : Node) → Led plan xs n → IsChain FromBytes (count_of plan) n.realm.slots
+pub led-chain : (plan : Plan) (xs : List Entry) (n : Node) → Led plan xs n → IsChain FromBytes ToSink (count_of plan) n.realm.slots
 led-chain plan xs n s =
-    subst (IsChain FromBytes (count_of plan))
-    (sym (s.slots ∙ run-append (opening FromBytes (count_of plan) (is_aborted plan)) (Called (piping (signal_of (is_aborted plan)) (count_of plan)) ∷ xs) empty))
-    (each_node_goes FromBytes (count_of plan) (is_aborted plan) xs (led-few plan s.is_of.accepted) s.calls).chain
+    subst (IsChain FromBytes ToSink (count_of plan))
+    (sym (s.slots ∙ run-append (opening FromBytes ToSink (count_of plan) (is_aborted plan)) (Called (piping (signal_of (is_aborted plan)) (count_of plan)) ∷ xs) empty))
+    (each_node_goes FromBytes ToSink (count_of plan) (is_aborted plan) xs (led-few plan s.is_of.accepted) s.calls).chain
 
 -- A node of which only the realm changed, and that may have stopped
 
@@ -157,14 +157,6 @@ pub record AfterCall (plan : Plan) (xs : List Entry) (c : Call) (a b : Node) : T
 
 -- a call
 
-nodes-leave : (n : ℕ) (c : Call) → IsNodes c → LeavesChain n c
-nodes-leave n (Settle h answer) is = (each_nodes_call_leaves n).settle h answer
-nodes-leave n (Enqueue i v) is = (each_nodes_call_leaves n).enqueue i v
-nodes-leave n (Finish i) is = (each_nodes_call_leaves n).finish i
-nodes-leave n (Fail i reason) is = subst (λ (j : StreamId). LeavesChain n (Fail j reason)) (sym is.1) ((each_nodes_call_leaves n).fail is.0 reason)
-nodes-leave n (Trigger a reason) is = (each_nodes_call_leaves n).trigger a reason
-nodes-leave n _ is = absurd is
-
 same_call : (c d : Call) → Called c ≡ Called d → c ≡ d
 same_call c d e = grind arith
 
@@ -173,7 +165,7 @@ pub call-short : (plan : Plan) (xs : List Entry) (a : Node) (realm : SeenRealm) 
     → (k : ℕ) → k ≤ count_of plan → IsShortOf (behind_at k realm.slots) (then_told (behind_at k a.realm.slots) (call_enters FromBytes k c))
 call-short plan xs a realm c led nodes slots k l =
     subst (λ q. IsShortOf (behind_at k q) (then_told (behind_at k a.realm.slots) (call_enters FromBytes k c))) (sym slots)
-    ((each_call_keeps_chain FromBytes (count_of plan) a.realm.slots c (led-chain plan xs a led) (nodes-leave (count_of plan) c nodes)).short k l)
+    ((each_call_keeps_chain FromBytes ToSink (count_of plan) a.realm.slots c (led-chain plan xs a led) (nodes-leave (count_of plan) c nodes)).short k l)
 
 stops-spent : (n : Node) (why : Why) → Stops why n → (n.stopped ≡ Some Spent → n.realm.slots.age ≡ oldest) → Some why ≡ Some Spent → n.realm.slots.age ≡ oldest
 stops-spent n why (Before f) g e = g (f ∙ e)
@@ -217,11 +209,10 @@ pub dropped : (plan : Plan) (xs : List Entry) (a b : Node) (m : ℕ) (piece : Li
 dropped plan xs a b m piece less led (Performed realm slots young goes is) not_done d e =
     let k : ℕ = suc m in
     let c : Call = Enqueue (source_of k) (Bytes piece) in
-    let chain = (led-chain plan xs a led).links k less in
-    let gives = (led-chain plan xs a led).gives k less in
+    let at = link-at FromBytes ToSink (count_of plan) a.realm.slots (led-chain plan xs a led) k less in
     let shut : (behind_at k a.realm.slots).mark ≢ MayCome =
     behind-mark k a.realm.slots
-    (enqueue-shut (source_of k) (transform_of m) (Bytes piece) a.realm.slots chain.source gives
+    (enqueue-shut (source_of k) (transform_of m) (Bytes piece) a.realm.slots at.link.source at.gives
     (λ f. not_done (record { going = goes; done = f; goes_on = ap (λ (n : Node). n.stopped) is ∙ goes }))) in
     let short : IsShortOf (behind_at k realm.slots) (behind_at k a.realm.slots) =
     short_as (behind_at k realm.slots) (then_told (behind_at k a.realm.slots) (call_enters FromBytes k c)) _ (nothing-follows (behind_at k a.realm.slots) (call_enters FromBytes k c) shut)
@@ -251,7 +242,7 @@ pub stages-count : (plan : Plan) (xs : List Entry) (a : Node) → Led plan xs a 
 stages-count plan xs a led = sym (length-map a.stages.items (λ w. w.stage)) ∙ ap length led.is_of.stages
 
 job-brings : (plan : Plan) (xs : List Entry) (a : Node) → Led plan xs a → JobBrings (count_of plan) (past plan xs)
-job-brings plan xs a led = each_end_was_flushed FromBytes (count_of plan) (past plan xs) (subst (IsChain FromBytes (count_of plan)) led.slots (led-chain plan xs a led))
+job-brings plan xs a led = each_end_was_flushed FromBytes ToSink (count_of plan) (past plan xs) (subst (IsChain FromBytes ToSink (count_of plan)) led.slots (led-chain plan xs a led))
 
 -- a job brings nothing but an end that comes anyway
 brought : (plan : Plan) (xs : List Entry) (a : Node) → Led plan xs a → (k : ℕ) → k ≤ count_of plan
@@ -279,7 +270,7 @@ brought plan xs a led k l = by-link k l
 
 -- nothing is brought to the source
 job-source : (plan : Plan) (xs : List Entry) (a : Node) → Led plan xs a
-    → KeepsBehind FromBytes (count_of plan) a.realm.slots (after_job a.realm.slots) (λ k. next_enters k (next_job a.realm.slots.promises))
+    → KeepsBehind FromBytes ToSink (count_of plan) a.realm.slots (after_job a.realm.slots) (λ k. next_enters k (next_job a.realm.slots.promises))
     → IsShortOf (behind_at 0 (after_job a.realm.slots)) (behind_at 0 a.realm.slots)
 job-source plan xs a led keeps =
     let brings = job-brings plan xs a led in
@@ -289,7 +280,7 @@ job-source plan xs a led keeps =
 
 -- what lies on each link after one job
 job-short : (plan : Plan) (xs : List Entry) (a : Node) → Led plan xs a
-    → KeepsBehind FromBytes (count_of plan) a.realm.slots (after_job a.realm.slots) (λ k. next_enters k (next_job a.realm.slots.promises)) → (k : ℕ) → k ≤ count_of plan
+    → KeepsBehind FromBytes ToSink (count_of plan) a.realm.slots (after_job a.realm.slots) (λ k. next_enters k (next_job a.realm.slots.promises)) → (k : ℕ) → k ≤ count_of plan
     → IsShortOf (then_told (in_bytes (behind_at k (after_job a.realm.slots))) (coming a k)) (then_told (in_bytes (behind_at k a.realm.slots)) (coming a k))
 job-short plan xs a led keeps k l =
     let now : Told Value = behind_at k (after_job a.realm.slots) in
@@ -323,7 +314,7 @@ jobs-go zero plan xs a realm goes led e young = record {
 }
 jobs-go (suc n) plan xs a realm goes led e young =
     let mid : SeenRealm = record { slots = after_job a.realm.slots; prepared = a.realm.prepared } in
-    let keeps = each_job_keeps_chain FromBytes (count_of plan) a.realm.slots (led-chain plan xs a led) in
+    let keeps = each_job_keeps_chain FromBytes ToSink (count_of plan) a.realm.slots (led-chain plan xs a led) in
     let older : mid.slots.age ≤ realm.slots.age = run-older (jobs_in_a_row n) mid.slots realm.slots e in
     let first : Led plan (xs ++ Worked ∷ []) (with_realm mid a) =
     longer plan xs Worked a mid led refl (omega (arith, older, young)) (goes-spent a (mid.slots.age ≡ oldest) goes) tt (All-nil (IsCause a)) (λ id f. cc) (λ id i f. cc) in
@@ -364,7 +355,7 @@ since-works plan xs a b led works = works-by plan xs a b led works a.stopped ref
 -- after an event, which is a call of the number that it tells
 pub record AfterEvent (plan : Plan) (xs : List Entry) (a : Node) (realm : SeenRealm) (e : Event) : Type 0 where
   pub led : Led plan (xs ++ Heard ∷ []) (with_realm realm a)
-  pub short : (k : ℕ) → k ≤ count_of plan → IsShortOf (then_told (heard_at (count_of plan) k e) (behind_at k realm.slots)) (behind_at k a.realm.slots)
+  pub short : (k : ℕ) → k ≤ count_of plan → IsShortOf (then_told (heard_at FromBytes ToSink (count_of plan) k e) (behind_at k realm.slots)) (behind_at k a.realm.slots)
   pub its : IsItsCall (called (past plan (xs ++ Heard ∷ []))) e
   pub age : realm.slots.age ≡ a.realm.slots.age
 
@@ -376,11 +367,11 @@ heard-led plan xs a realm led slots =
 
 heard-short : (plan : Plan) (xs : List Entry) (a : Node) (realm : SeenRealm) (o : Option Event) → Led plan xs a → first_event a.realm.slots.promises.events ≡ o
     → realm.slots ≡ after_event a.realm.slots → (k : ℕ) → k ≤ count_of plan
-    → IsShortOf (then_told (next_heard (count_of plan) k o) (behind_at k realm.slots)) (behind_at k a.realm.slots)
+    → IsShortOf (then_told (next_heard FromBytes ToSink (count_of plan) k o) (behind_at k realm.slots)) (behind_at k a.realm.slots)
 heard-short plan xs a realm o led first slots k l =
-    subst (λ q. IsShortOf (then_told (next_heard (count_of plan) k o) (behind_at k q)) (behind_at k a.realm.slots)) (sym slots)
-    (subst (λ q. IsShortOf (then_told (next_heard (count_of plan) k q) (behind_at k (after_event a.realm.slots))) (behind_at k a.realm.slots)) first
-    ((each_event_keeps_chain FromBytes (count_of plan) a.realm.slots (led-chain plan xs a led)).short k l))
+    subst (λ q. IsShortOf (then_told (next_heard FromBytes ToSink (count_of plan) k o) (behind_at k q)) (behind_at k a.realm.slots)) (sym slots)
+    (subst (λ q. IsShortOf (then_told (next_heard FromBytes ToSink (count_of plan) k q) (behind_at k (after_event a.realm.slots))) (behind_at k a.realm.slots)) first
+    ((each_event_keeps_chain FromBytes ToSink (count_of plan) a.realm.slots (led-chain plan xs a led)).short k l))
 
 same_some : {A : Type 0} (x y : A) → Some x ≡ Some y → x ≡ y
 same_some x y e = grind arith

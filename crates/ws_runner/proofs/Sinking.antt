@@ -24,7 +24,7 @@ use Rattle.ws_stages.specs.State.{State}
 use Rattle.ws_steps.specs.declared.calls.Event.TheVariants.{Host}
 use Rattle.ws_steps.specs.declared.calls.HostCall.{HostCall}
 use Rattle.ws_steps.specs.Run.{Entry, Heard}
-use Rattle.ws_chain_laws.specs.Chain.{behind_at, heard_at}
+use Rattle.ws_chain_laws.specs.Chain.{FromBytes, ToSink, behind_at, heard_at}
 use Rattle.ws_chain_laws.specs.Nodes.{only_at}
 use Rattle.ws_realm.specs.Seen.{SeenRealm}
 use Rattle.ws_runner.specs.declared.node.Abort.{Abort}
@@ -162,7 +162,7 @@ module _ (plan : Plan) (xs : List Entry) (a : Node) (realm : SeenRealm) (since :
       All-head P piece (y.items ++ first.0) (all-last P fed.went.items (piece ∷ (y.items ++ first.0)) (subst (All P) items all))
 
   module _ (id : HostId) (call : HostCall) (t : Told Value) (event : AfterEvent plan xs a realm (Host id call))
-      (heard : (k : ℕ) → k ≤ count_of plan → heard_at (count_of plan) k (Host id call) ≡ only_at (count_of plan) t k) where
+      (heard : (k : ℕ) → k ≤ count_of plan → heard_at FromBytes ToSink (count_of plan) k (Host id call) ≡ only_at (count_of plan) t k) where
     pub heard-out : (x : Told (List ℕ)) → IsShortOf (then_told (in_bytes t) (lies_to x was (count_of plan))) (lies_to x a (count_of plan))
     heard-out x =
         let n = count_of plan in
@@ -179,7 +179,7 @@ module _ (plan : Plan) (xs : List Entry) (a : Node) (realm : SeenRealm) (since :
     one-stages b u us whole is ahead less =
         let some : 0 ≢ count_of plan = λ e. let f = count-works in let g = length-map a.stages.items (λ (w : State). w.work) in let h : length a.stages.items ≡ suc (length us) = ap length whole in omega arith in
         one-behind u us us a b since.one whole is ahead
-        (λ n o. less n (one-quiet n (heard_at (count_of plan) 0 (Host id call)) (behind_at 0 realm.slots) (behind_at 0 a.realm.slots)
+        (λ n o. less n (one-quiet n (heard_at FromBytes ToSink (count_of plan) 0 (Host id call)) (behind_at 0 realm.slots) (behind_at 0 a.realm.slots)
         (heard 0 (omega arith) ∙ at-elsewhere (count_of plan) 0 t some) (event.short 0 (omega arith)) o))
 
     -- a node whose host has done its part, and its realm after that

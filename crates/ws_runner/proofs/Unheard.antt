@@ -8,7 +8,7 @@ use Rattle.ws_laws.proofs.Tables.{eq_numbers, unequal_numbers, is_same-refl}
 use Rattle.ws_stages.specs.State.{State}
 use Rattle.ws_steps.specs.declared.calls.Event.TheVariants.{Host}
 use Rattle.ws_steps.specs.declared.calls.HostCall.TheVariants.{Transform, Flush}
-use Rattle.ws_chain_laws.specs.Chain.{source_of, heard_at}
+use Rattle.ws_chain_laws.specs.Chain.{FromBytes, ToSink, source_of, heard_at}
 use Rattle.ws_chain_laws.specs.Nodes.{only_at}
 use Rattle.ws_link_laws.specs.Link.{silence}
 use Rattle.ws_runner.specs.Moves.{NoneThere}
@@ -43,15 +43,15 @@ module _ (n k : ℕ) (id : HostId) (i : StreamId) (less : k ≤ n) (none : IsNoH
     by true f = absurd (none k (let g = unequal_numbers k n e in let h : k ≢ n = g in omega arith) (the_half k i f))
     by false f = f
 
-  pub no-transform : (v : Value) → heard_at n k (Host id (Transform i v)) ≡ silence
+  pub no-transform : (v : Value) → heard_at FromBytes ToSink n k (Host id (Transform i v)) ≡ silence
   no-transform v = by (nat_eq k n) refl where
-    by : (b : Bool) → nat_eq k n ≡ b → heard_at n k (Host id (Transform i v)) ≡ silence
+    by : (b : Bool) → nat_eq k n ≡ b → heard_at FromBytes ToSink n k (Host id (Transform i v)) ≡ silence
     by true e = rw e refl
     by false e = let f = not_half e in rw (e, f) refl
 
-  pub no-flush : heard_at n k (Host id (Flush i)) ≡ silence
+  pub no-flush : heard_at FromBytes ToSink n k (Host id (Flush i)) ≡ silence
   no-flush = by (nat_eq k n) refl where
-    by : (b : Bool) → nat_eq k n ≡ b → heard_at n k (Host id (Flush i)) ≡ silence
+    by : (b : Bool) → nat_eq k n ≡ b → heard_at FromBytes ToSink n k (Host id (Flush i)) ≡ silence
     by true e = rw e refl
     by false e = let f = not_half e in rw (e, f) refl
 

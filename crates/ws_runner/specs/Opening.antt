@@ -15,7 +15,7 @@ use Rattle.ws_chain_laws.specs.Opening.{piping, signal_of, opened, made}
 use Rattle.ws_chain_laws.specs.Outcomes.{past_of}
 use Rattle.ws_realm.specs.Seen.{SeenRealm}
 use Rattle.ws_runner.specs.declared.node.Abort.{Abort}
-use Rattle.ws_chain_laws.specs.Chain.{FromBytes}
+use Rattle.ws_chain_laws.specs.Chain.{FromBytes, ToSink}
 
 -- a plan that isn't refused
 abbrev pub IsAccepted : Plan → Type 0
@@ -40,16 +40,16 @@ IsPromise _ = ⊥
 
 -- the realm to which the calls of the opening lead, and then these entries
 abbrev pub led_by : Plan → List Entry → Slots
-led_by plan xs = run (past_of FromBytes (count_of plan) (is_aborted plan) xs) empty
+led_by plan xs = run (past_of FromBytes ToSink (count_of plan) (is_aborted plan) xs) empty
 
 -- all that led there
 abbrev pub past : Plan → List Entry → List Entry
-past plan xs = past_of FromBytes (count_of plan) (is_aborted plan) xs
+past plan xs = past_of FromBytes ToSink (count_of plan) (is_aborted plan) xs
 
 -- the promise of the last pipe, and those of the pipes before, each by the reply that named it
 
 abbrev pub IsAnswered : Plan → PromiseId → Type 0
-IsAnswered plan p = reply_to (piping (signal_of (is_aborted plan)) (count_of plan)) (opened FromBytes (count_of plan) (is_aborted plan)) ≡ Promise p
+IsAnswered plan p = reply_to (piping (signal_of (is_aborted plan)) (count_of plan)) (opened FromBytes ToSink (count_of plan) (is_aborted plan)) ≡ Promise p
 
 abbrev pub AreAnswered : ℕ → ℕ → Slots → List PromiseId → Type 0
 AreAnswered k zero s ps = ps ≡ []
@@ -58,7 +58,7 @@ AreAnswered k (suc n) s (p ∷ ps) =
     (reply_to (piping None k) s ≡ Promise p) × AreAnswered (suc k) n (after_call (piping None k) s) ps
 
 abbrev pub AreAnsweredOf : Plan → List PromiseId → Type 0
-AreAnsweredOf plan ps = AreAnswered 0 (count_of plan) (made FromBytes (count_of plan) (is_aborted plan)) ps
+AreAnsweredOf plan ps = AreAnswered 0 (count_of plan) (made FromBytes ToSink (count_of plan) (is_aborted plan)) ps
 
 -- so many pipes from this number on can be made
 abbrev pub CanPipe : ℕ → ℕ → Slots → Type 0
