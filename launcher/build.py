@@ -75,7 +75,7 @@ def tell(line):
 
 
 def lines_of(running):
-    """The lines that a process writes, and an empty one where it is silent for a while."""
+    """The lines that a process writes, and an empty one where it is silent for a second."""
     lines = queue.Queue()
 
     def read():
@@ -86,7 +86,7 @@ def lines_of(running):
     threading.Thread(target=read, daemon=True).start()
     while True:
         try:
-            line = lines.get(timeout=HEARTBEAT_SECONDS)
+            line = lines.get(timeout=1)
         except queue.Empty:
             line = ""
         if line is None:
@@ -105,7 +105,7 @@ def prove(folder):
         )
     except OSError as error:
         raise exits.Stop(exits.NO_PROCESS, f"rt can't be started: {error.strerror}") from None
-    said, begun, far = [], time.monotonic(), progress.Progress()
+    said, begun, far, told = [], time.monotonic(), progress.Progress(), 0.0
     try:
         for line in lines_of(running):
             said.append(line)
@@ -115,8 +115,9 @@ def prove(folder):
                     far.proved(ended[1], gone)
                 else:
                     far.kept(ended[1])
-            if ended or not line:
+            if ended or gone - told >= HEARTBEAT_SECONDS:
                 tell(f"{f'{ended[1]} {ended[2]}' if ended else 'proving'}: {far.told(gone)}")
+                told = gone
         status = running.wait()
     finally:
         running.kill()
@@ -132,7 +133,7 @@ def install(made, told):
     shutil.copy(made, new)
     sources.SUM.unlink(missing_ok=True)
     os.replace(new, sources.BUILT)
-    sources.SUM.write_text(told)
+    sources.SUM.write_text(sources.sums_of(sources.BUILT, told))
 
 
 def make():
@@ -169,7 +170,9 @@ def build():
     try:
         make()
     except exits.Stop as why:
-        FAILED.write_text(f"{why.status} {why}")
+        # (a full disk has no room for that either)
+        with contextlib.suppress(OSError):
+            FAILED.write_text(f"{why.status} {why}")
         raise
     tell("the program is proved and built")
 

@@ -82,7 +82,7 @@ def answer(words):
     if ran is None:
         exits.say("there is no answer without a proof, as where a run takes more than a minute or puts out more than 1 MiB: this waits for the proved program, with its input kept")
         return None
-    exits.say(UNPROVED.format(build.how_far(), os.path.relpath(build.LOG)))
+    exits.say(UNPROVED.format(build.how_far(), build.LOG))
     if reads:
         given.answered(len(data))
     return hand_out(*ran)

@@ -9,7 +9,7 @@ ROOT = pathlib.Path(__file__).resolve().parent.parent
 PROGRAM = "streams"
 OUT = ROOT / "crates" / PROGRAM / "out"
 BUILT = OUT / PROGRAM
-# The sum of the sources that the program was built of.
+# The sums of the sources that the program was built of, and of the program.
 SUM = OUT / "sources.sum"
 # Beside src/, specs/ and proofs/ what the program's stored run is made of.
 PARTS = ("src", "specs", "proofs", "args", "stdin", "stdout", "status", "data")
@@ -65,9 +65,14 @@ def sum_of():
     return told.hexdigest()
 
 
+def sums_of(program, of_sources):
+    """What SUM says of a program that was built of sources with this sum."""
+    return f"{of_sources} {hashlib.sha256(program.read_bytes()).hexdigest()}\n"
+
+
 def is_built():
-    """Whether the program is there and was built of these sources. A file that was only touched changes nothing."""
-    if not os.access(BUILT, os.X_OK) or not SUM.exists() or SUM.read_text() != sum_of():
+    """Whether the program is there and is the one that was built of these sources. A file that was only touched changes nothing."""
+    if not os.access(BUILT, os.X_OK) or not SUM.exists() or SUM.read_text() != sums_of(BUILT, sum_of()):
         return False
     try:
         os.utime(BUILT)

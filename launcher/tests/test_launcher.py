@@ -184,6 +184,15 @@ class Launcher(unittest.TestCase):
         self.assertRegex(ran.stderr.decode(), r"low proved: 50 % of the work, 0 min 0\d s, about 0 min \d\d s left")
         self.assertEqual(list(self.tmp.iterdir()), [])
 
+    def test_a_build_says_how_far_it_is_whatever_rt_says(self):
+        script = self.top / "launcher/build.py"
+        text = script.read_text()
+        self.assertIn("HEARTBEAT_SECONDS = 30\n", text)
+        script.write_text(text.replace("HEARTBEAT_SECONDS = 30\n", "HEARTBEAT_SECONDS = 0.5\n"))
+        self.set("ci_seconds", "4")
+        ran = self.run_streams("run", given=b"x", env={"STREAMS_PROVED": "1"})
+        self.assertGreaterEqual(len(re.findall("^streams: proving: ", ran.stderr.decode(), re.MULTILINE)), 4, ran.stderr)
+
     def test_two_at_once_prove_once(self):
         self.set("ci_seconds", "2")
         asked = [
@@ -275,6 +284,16 @@ class Launcher(unittest.TestCase):
         ran = self.run_streams("run", given=b"x", env={"STREAMS_PROVED": "1"})
         self.assertEqual((ran.returncode, ran.stdout), (0, b"x"))
         self.assertIn(b"older than its sources", ran.stderr)
+        self.assertEqual(len(self.calls("ci")), 2)
+
+    def test_a_program_that_was_built_otherwise_of_other_sources(self):
+        self.built()
+        program = self.top / "crates/streams/out/streams"
+        program.write_text("#!/bin/sh\necho other\n")
+        ahead = time.time() + 100
+        os.utime(self.top / "crates/low/src/lib.rt", (ahead, ahead))
+        ran = self.run_streams("run", given=b"x", env={"STREAMS_PROVED": "1"})
+        self.assertEqual((ran.returncode, ran.stdout), (0, b"x"), ran.stderr)
         self.assertEqual(len(self.calls("ci")), 2)
 
     # Where it stands and what it needs.
