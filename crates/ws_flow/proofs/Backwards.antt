@@ -1,16 +1,16 @@
 -- `unhex` of `hex`, and `unframe` of `frame`.
-use Rattle.std.proofs.Common.{◌≡◌, ℕ, suc, ◌+◌, ◌-◌, ◌*◌, ◌/◌, ◌%◌, ◌<◌, ◌≤◌, Bool, true, false, List, [], ◌∷◌, ◌++◌, refl, sym, ap, ◌∙◌, append_assoc, append-nil, length-append, arith, Some, length, map, get_or, nat_eq, nat_lt, ◌||◌, add-zero}
+use Rattle.std.proofs.Common.{◌≡◌, ℕ, suc, ◌+◌, ◌-◌, ◌*◌, ◌/◌, ◌%◌, ◌<◌, ◌≤◌, Bool, true, false, ◌||◌, nat_eq, nat_lt, Some, List, [], ◌∷◌, ◌++◌, length, map, get_or, append_assoc, append-nil, length-append, add-zero, refl, sym, ap, ◌∙◌, arith}
 use Rattle.std.specs.Prelude.{if◌then◌else◌}
-use Rattle.ws_flow.specs.Machines.{Kept, Pushed, mark_of, end_mark, at_end, more, or_else, end_verdict, verdict}
-use Rattle.ws_flow.specs.Plans.{bytes_of}
-use Rattle.ws_flow.specs.Stages.{pushed, nothing_kept, added, each_byte, AsCut, SomeBytes, byte_machine, with_rest, digit_met, unhex_byte, odd_end, four_bytes, framed, frame_has, unframe_byte, inside_end}
-use Rattle.ws_flow.specs.Told.{Mark, Open, Closed, Lost, told, then_told}
+use Rattle.std.specs.List.{concat}
+use Rattle.hex.specs.Hex.{encode_lower, encode_with, hex_digit_value, lower_digits}
+use Rattle.hex.proofs.HexLemmas.{IsDigits-lower_digits}
+use Rattle.ws_flow.specs.declared.plan.Ending.TheVariants.{Fine, Bad}
+use Rattle.ws_flow.specs.Told.{Mark, Open, Closed, Lost, told, then_told, bytes_of}
+use Rattle.ws_flow.specs.Machines.{Kept, Pushed, mark_of, end_mark, at_end, more, or_else, end_verdict, verdict, pushed, nothing_kept, with_rest, added, each_byte, AsCut, SomeBytes, byte_machine}
+use Rattle.ws_flow.specs.Stages.{digit_met, unhex_byte, odd_end, four_bytes, framed, frame_has, unframe_byte, inside_end}
 use Rattle.ws_flow.proofs.Cutting.{more_cut, more_bytes, verdict_bytes}
 use Rattle.ws_flow.proofs.Whole.{EachIs}
-use Rattle.ws_flow.specs.declared.plan.Ending.TheVariants.{Fine, Bad}
-use Rattle.hex.specs.Hex.{encode_lower, hex_digit_value, lower_digits, encode_with}
-use Rattle.hex.proofs.HexLemmas.{IsDigits-lower_digits}
-use Rattle.std.specs.List.{concat}
+use Rattle.ws_flow.proofs.Short.{EachShort}
 
 each_cons : (f : Kept → ℕ → Pushed) (k : Kept) (b : ℕ) (bs : List ℕ) (p : Pushed) → f k b ≡ p → each_byte f k (b ∷ bs) ≡ added p.chunks p.ending p.kept (each_byte f p.kept bs)
 each_cons f k b bs p h = ap (λ q. added q.chunks q.ending q.kept (each_byte f q.kept bs)) h
@@ -170,11 +170,6 @@ frame_by most a b c d (x ∷ s) bs y n h e =
 
       all : (l n : ℕ) → suc l ≡ n → 0 + suc l ≡ n
       all l n e = omega arith
-
--- each chunk is no longer than this
-abbrev pub EachShort : ℕ → List (List ℕ) → Type 0
-EachShort most [] = Unit {0}
-EachShort most (c ∷ cs) = (length c ≤ most) × EachShort most cs
 
 frames_read : (most : ℕ) (y n : ℕ) (cs : List (List ℕ)) → most < 4294967296 → EachShort most cs →
     ((each_byte (unframe_byte most) (kept_of [] y n) (concat (map framed cs))).chunks ≡ cs) × ((each_byte (unframe_byte most) (kept_of [] y n) (concat (map framed cs))).ending ≡ Fine) × ((each_byte (unframe_byte most) (kept_of [] y n) (concat (map framed cs))).kept.rest ≡ [])

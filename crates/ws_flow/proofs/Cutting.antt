@@ -1,12 +1,11 @@
 -- Cutting doesn't matter.
-use Rattle.std.proofs.Common.{◌≡◌, ℕ, zero, suc, true, false, List, [], ◌∷◌, ◌++◌, refl, sym, ap, ◌∙◌, append_assoc, append-nil, nat_abs}
-use Rattle.ws_flow.specs.Machines.{Kept, Pushed, Machine, mark_of, piece, at_end, more, through, or_else, end_verdict, verdict, all_through, ending}
-use Rattle.ws_flow.specs.Plans.{bytes_of, sees_known_chunks}
-use Rattle.ws_flow.specs.Stages.{pushed, added, each_byte, Packing, AsCut, One, SomeBytes, some_chunk, packed, byte_machine, no_more, line_byte, last_part, block_byte, mask_byte, hex_byte, unhex_byte, odd_end, unframe_byte, inside_end, machines}
-use Rattle.ws_flow.specs.Told.{Mark, Open, Closed, Lost, Told, told, goes_on, then_told}
+use Rattle.std.proofs.Common.{◌≡◌, ℕ, zero, suc, true, false, ◌&&◌, List, [], ◌∷◌, ◌++◌, refl, sym, ap, ◌∙◌, append_assoc, append-nil}
+use Rattle.ws_flow.specs.Machines.{Kept, Pushed, Machine, mark_of, piece, at_end, more, through, or_else, end_verdict, verdict, all_through, ending, pushed, added, each_byte, Packing, AsCut, One, SomeBytes, some_chunk, packed, byte_machine, Form, OfBytes, OfChunks, machine_of}
+use Rattle.ws_flow.specs.Plans.{may_see, is_known, sees_known_chunks}
+use Rattle.ws_flow.specs.Stages.{form, machines}
+use Rattle.ws_flow.specs.Told.{bytes_of, Mark, Open, Closed, Lost, Told, told, goes_on, then_told}
 use Rattle.ws_flow.proofs.Told.{then_assoc}
 use Rattle.ws_flow.specs.declared.plan.Ending.TheVariants.{Fine, Bad}
-use Rattle.ws_flow.specs.declared.plan.Stage.TheVariants.{Lines, Fixed, Hex, Unhex, Mask, Number, Frame, Unframe}
 use Rattle.ws_flow.specs.declared.plan.Ending.{Ending}
 use Rattle.ws_flow.specs.declared.plan.Stage.{Stage}
 use Rattle.std.specs.List.{concat}
@@ -130,13 +129,13 @@ bytes_stage : (w : Packing) (f : Kept → ℕ → Pushed) (g : Kept → Pushed) 
 bytes_stage w f g ms x y h r = let m = byte_machine w f g in same_then m ms x y (verdict_cut w f g m.start x y h) (r (through m m.start x) (through m m.start y) (through_bytes w f g m.start x y h))
 
 -- Cutting doesn't matter where no stage sees chunks that depend on it.
+by_form : (f : Form) (ss : List Stage) (x y : Told (List ℕ)) → (may_see false f && sees_known_chunks (is_known false f) ss) ≡ true → bytes_of x ≡ bytes_of y →
+    ((u v : Told (List ℕ)) → sees_known_chunks false ss ≡ true → bytes_of u ≡ bytes_of v → Same (machines ss) u v) → Same (machine_of f ∷ machines ss) x y
+by_form (OfBytes AsCut f g) ss x y a h r = cut_stage f g (machines ss) x y h
+by_form (OfBytes One f g) ss x y a h r = bytes_stage One f g (machines ss) x y h (λ u v. r u v a)
+by_form (OfBytes SomeBytes f g) ss x y a h r = bytes_stage SomeBytes f g (machines ss) x y h (λ u v. r u v a)
+by_form (OfChunks f) ss x y a h r = cc
+
 pub same_cut : (ss : List Stage) (x y : Told (List ℕ)) → sees_known_chunks false ss ≡ true → bytes_of x ≡ bytes_of y → Same (machines ss) x y
 same_cut [] x y a h = record { bytes = h; endings = λ j. refl }
-same_cut (Lines n ∷ ss) x y a h = cut_stage (line_byte (nat_abs n)) last_part (machines ss) x y h
-same_cut (Fixed n ∷ ss) x y a h = cut_stage (block_byte (nat_abs n)) last_part (machines ss) x y h
-same_cut (Unframe n ∷ ss) x y a h = cut_stage (unframe_byte (nat_abs n)) (λ k. inside_end k k.rest) (machines ss) x y h
-same_cut (Unhex ∷ ss) x y a h = bytes_stage SomeBytes unhex_byte (λ k. odd_end k k.rest) (machines ss) x y h (λ u v. same_cut ss u v a)
-same_cut (Hex ∷ ss) x y a h = bytes_stage One hex_byte no_more (machines ss) x y h (λ u v. same_cut ss u v a)
-same_cut (Mask key ∷ ss) x y a h = bytes_stage One (mask_byte key) no_more (machines ss) x y h (λ u v. same_cut ss u v a)
-same_cut (Number ∷ ss) x y a h = cc
-same_cut (Frame ∷ ss) x y a h = cc
+same_cut (s ∷ ss) x y a h = by_form (form s) ss x y a h (λ u v. same_cut ss u v)

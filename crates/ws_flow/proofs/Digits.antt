@@ -1,15 +1,20 @@
--- The steps of `unhex`.
-use Rattle.std.proofs.Common.{◌≡◌, ◌≢◌, ◌⊎◌, inl, inr, ℕ, suc, ◌+◌, ◌*◌, ◌/◌, ◌%◌, ◌<◌, ◌≤◌, Bool, true, false, List, [], ◌∷◌, ◌++◌, refl, sym, ap, ◌∙◌, append_assoc, append-nil, arith, Option, Some, None, length, nat_eq, ◌||◌}
-use Rattle.std.specs.Prelude.{if◌then◌else◌}
-use Rattle.ws_flow.specs.Machines.{Kept}
-use Rattle.ws_flow.specs.Outputs.{digit_or_none, digits_in, digits_of, IsPassedOver, DigitsDone, DigitWrong}
-use Rattle.ws_flow.specs.Stages.{pushed, with_rest, digit_met, unhex_byte}
-use Rattle.ws_flow.proofs.Cutting.{joined_append}
-use Rattle.ws_flow.proofs.Whole.{EachIs, StepSays, Stepwise}
-use Rattle.ws_flow.specs.declared.plan.Ending.TheVariants.{Fine}
-use Rattle.hex.specs.Hex.{hex_digit_value}
+-- `unhex`: each digit is read.
+use Rattle.std.proofs.Common.{◌≡◌, ◌≢◌, ◌⊎◌, inl, inr, ℕ, suc, ◌+◌, ◌*◌, ◌/◌, ◌%◌, ◌<◌, ◌≤◌, Bool, true, false, ◌||◌, nat_eq, Option, Some, None, List, [], ◌∷◌, ◌++◌, length, append_assoc, append-nil, length-append, refl, sym, ap, ◌∙◌, arith}
+use Rattle.std.specs.Prelude.{if◌then◌else◌, codes}
 use Rattle.std.specs.List.{concat}
 use Rattle.std.proofs.lemmas.List.Elements.{All-nil, All-push}
+use Rattle.hex.specs.Hex.{hex_digit_value}
+use Rattle.ws_flow.specs.declared.plan.Ending.{Ending}
+use Rattle.ws_flow.specs.declared.plan.Ending.TheVariants.{Fine, Bad}
+use Rattle.ws_flow.specs.declared.plan.Stage.TheVariants.{Unhex}
+use Rattle.ws_flow.specs.Told.{Closed, Lost, told, bytes_of}
+use Rattle.ws_flow.specs.Machines.{Kept, Pushed, ending, pushed, nothing_kept, with_rest, added, each_byte}
+use Rattle.ws_flow.specs.Stages.{digit_met, unhex_byte, odd_end, digit_or_none, digits_in, digits_of, IsPassedOver, DigitsDone, DigitWrong, machine, machines, is_of_end}
+use Rattle.ws_flow.specs.Plans.{as_one, reach}
+use Rattle.ws_flow.proofs.Cutting.{joined_append}
+use Rattle.ws_flow.proofs.Whole.{EachIs, StepSays, Stepwise, all_units, says_all}
+use Rattle.ws_flow.proofs.Short.{EachShort, more_short, rest_short}
+use Rattle.ws_flow.proofs.Kind.{NeverLate, each_never_late, IsKind}
 
 pub digits_in-append : (a b : List ℕ) → digits_in (a ++ b) ≡ digits_in a ++ digits_in b
 digits_in-append [] b = refl
@@ -114,3 +119,68 @@ digits_stepwise = record { step = λ before cs k b x d n. unhex_step before cs k
 
 pub digits_begin : DigitsHeld [] [] []
 digits_begin = record { done = record { whole = refl; digits = All-nil (λ q. IsPassedOver q ⊎ (hex_digit_value q ≢ None)); one = omega arith }; small = tt }
+
+digit_late : (k : Kept) (r : List ℕ) (d : Option ℕ) (code place : ℕ) → (digit_met k r d).ending ≡ Bad code place → is_of_end code ≡ false
+digit_late k [] (Some d) code place e = grind arith
+digit_late k (h ∷ r) (Some d) code place e = grind arith
+digit_late k [] None code place e = grind arith
+digit_late k (h ∷ r) None code place e = grind arith
+
+unhex_late : NeverLate unhex_byte
+unhex_late k b code place e = by (nat_eq b 10 || nat_eq b 13) e where
+  by : (c : Bool) → (if c then pushed (with_rest k k.rest) [] Fine else digit_met k k.rest (hex_digit_value b)).ending ≡ Bad code place → is_of_end code ≡ false
+  by true e = grind arith
+  by false e = digit_late k k.rest (hex_digit_value b) code place e
+
+-- no more bytes come out than come
+digit_few : (k : Kept) (r : List ℕ) (o : Option ℕ) → length (concat (digit_met k r o).chunks) ≤ 1
+digit_few k [] (Some d) = omega arith
+digit_few k (x ∷ r) (Some d) = omega arith
+digit_few k [] None = omega arith
+digit_few k (x ∷ r) None = omega arith
+
+unhex_few : (k : Kept) (x : ℕ) → length (concat (unhex_byte k x).chunks) ≤ 1
+unhex_few k x = by (nat_eq x 10 || nat_eq x 13) where
+  by : (u : Bool) → length (concat (if u then pushed (with_rest k k.rest) [] Fine else digit_met k k.rest (hex_digit_value x)).chunks) ≤ 1
+  by true = omega arith
+  by false = digit_few k k.rest (hex_digit_value x)
+
+added_few : (n : ℕ) (cs : List (List ℕ)) (e : Ending) (k : Kept) (r : Pushed) → length (concat cs) ≤ 1 → length (concat r.chunks) ≤ n → length (concat (added cs e k r).chunks) ≤ suc n
+added_few n cs Fine k r h g =
+    let e = ap length (joined_append cs r.chunks) ∙ length-append (concat cs) (concat r.chunks) in omega arith
+added_few n cs (Bad c p) k r h g = omega arith
+
+bytes_few : (k : Kept) (c : List ℕ) → length (concat (each_byte unhex_byte k c).chunks) ≤ length c
+bytes_few k [] = omega arith
+bytes_few k (x ∷ c) = let p = unhex_byte k x in added_few (length c) p.chunks p.ending p.kept (each_byte unhex_byte p.kept c) (unhex_few k x) (bytes_few p.kept c)
+
+odd_short : (b : ℕ) (k : Kept) (r : List ℕ) → EachShort b (odd_end k r).chunks
+odd_short b k [] = tt
+odd_short b k (x ∷ r) = tt
+
+pub unhex : IsKind Unhex
+unhex = record {
+  told = λ input. says_all DigitsDone DigitsHeld DigitWrong (λ b. Unit {0}) unhex_byte digits_stepwise (λ b cs r h. h.done) digits_begin input (all_units input);
+  late = each_never_late unhex_byte unhex_late;
+  fits = λ n l. tt;
+  longest = λ n. n;
+  short = λ n x r h. more_short (machine Unhex) n n (λ k. Unit {0}) (λ k c i l. (rest_short n (concat (each_byte unhex_byte k c).chunks) (let g = bytes_few k c in omega arith), tt))
+      (λ k i. odd_short n k k.rest) nothing_kept x.items x.mark tt h;
+  grows = λ n r. inl (omega arith);
+}
+
+-- a byte that is no digit, and an odd number of digits
+bad_digit : ending (machines (Unhex ∷ [])) 0 (as_one (codes "0g") Closed) ≡ Bad 2 1
+bad_digit = refl
+
+bad_digit_writes : bytes_of (reach (Unhex ∷ []) (codes "0g") Closed) ≡ told [] Lost
+bad_digit_writes = refl
+
+odd_digits : ending (machines (Unhex ∷ [])) 0 (told ((97 ∷ []) ∷ (98 ∷ []) ∷ (99 ∷ []) ∷ []) Closed) ≡ Bad 3 3
+odd_digits = refl
+
+odd_digits_write : bytes_of (reach (Unhex ∷ []) (codes "aBc") Closed) ≡ told (171 ∷ []) Lost
+odd_digits_write = refl
+
+feeds_are_passed_over : bytes_of (reach (Unhex ∷ []) (codes "0\r\n1\n2f") Closed) ≡ told (1 ∷ 47 ∷ []) Closed
+feeds_are_passed_over = refl

@@ -1,13 +1,18 @@
--- The steps of `unframe`.
-use Rattle.std.proofs.Common.{◌≡◌, ℕ, suc, ◌+◌, ◌-◌, ◌/◌, ◌%◌, ◌<◌, ◌≤◌, Bool, true, false, List, [], ◌∷◌, ◌++◌, refl, sym, ap, ◌∙◌, subst, append_assoc, append-nil, length-append, arith, length, map, nat_eq, nat_lt}
-use Rattle.std.specs.Prelude.{if◌then◌else◌}
-use Rattle.ws_flow.specs.Machines.{Kept}
-use Rattle.ws_flow.specs.Outputs.{IsPartOfFrame, FramesDone, TellsMore, FrameWrong}
-use Rattle.ws_flow.specs.Stages.{pushed, with_rest, four_bytes, framed, unframe_byte}
-use Rattle.ws_flow.proofs.Whole.{EachIs, StepSays, Stepwise}
-use Rattle.ws_flow.specs.declared.plan.Ending.TheVariants.{Fine, Bad}
+-- `unframe`: each frame is read.
+use Rattle.std.proofs.Common.{◌≡◌, inr, ℕ, suc, ◌+◌, ◌-◌, ◌/◌, ◌%◌, ◌<◌, ◌≤◌, ℤ, pos, nat_abs, Bool, true, false, nat_eq, nat_lt, List, [], ◌∷◌, ◌++◌, length, map, append_assoc, append-nil, length-append, refl, sym, ap, ◌∙◌, subst, arith}
+use Rattle.std.specs.Prelude.{if◌then◌else◌, codes}
 use Rattle.std.specs.List.{concat, All}
 use Rattle.std.proofs.lemmas.List.Elements.{All-nil, All-push}
+use Rattle.hex.specs.Hex.{encode_with}
+use Rattle.ws_flow.specs.declared.plan.Ending.TheVariants.{Fine, Bad}
+use Rattle.ws_flow.specs.declared.plan.Stage.TheVariants.{Hex, Unframe}
+use Rattle.ws_flow.specs.Told.{Closed, told}
+use Rattle.ws_flow.specs.Machines.{Kept, ending, pushed, nothing_kept, with_rest}
+use Rattle.ws_flow.specs.Stages.{four_bytes, framed, frame_has, frame_met, unframe_byte, inside_end, IsPartOfFrame, FramesDone, TellsMore, FrameWrong, machine, machines, is_of_end}
+use Rattle.ws_flow.specs.Plans.{as_one, reach}
+use Rattle.ws_flow.proofs.Whole.{EachIs, StepSays, Stepwise, each_is_all, says_all}
+use Rattle.ws_flow.proofs.Short.{EachShort, more_short, bytes_short, range_high}
+use Rattle.ws_flow.proofs.Kind.{NeverLate, each_never_late, IsKind}
 
 four_lit : (a b c d n : ℕ) → a < 256 → b < 256 → c < 256 → d < 256 → n ≡ four_bytes a b c d →
     (n / 16777216 % 256 ≡ a) × (n / 65536 % 256 ≡ b) × (n / 256 % 256 ≡ c) × (n % 256 ≡ d)
@@ -143,3 +148,64 @@ frames_stepwise most = record { step = λ before cs k b x d n. frame_step most b
 
 pub frames_begin : (most : ℕ) → FramesHeld most [] [] []
 frames_begin most = record { done = record { whole = refl; short = All-nil (λ c. length c ≤ most); part = tt }; bytes = tt }
+
+has_late : (most : ℕ) (k : Kept) (n : ℕ) (r : List ℕ) (code place : ℕ) → (frame_has most k n r).ending ≡ Bad code place → is_of_end code ≡ false
+has_late most k n r code place e = grind arith
+
+met_late : (most : ℕ) (k : Kept) (r : List ℕ) (code place : ℕ) → (frame_met most k r).ending ≡ Bad code place → is_of_end code ≡ false
+met_late most k [] code place e = grind arith
+met_late most k (a ∷ []) code place e = grind arith
+met_late most k (a ∷ b ∷ []) code place e = grind arith
+met_late most k (a ∷ b ∷ c ∷ []) code place e = grind arith
+met_late most k (a ∷ b ∷ c ∷ d ∷ r) code place e = has_late most k (four_bytes a b c d) r code place e
+
+frame_late : (most : ℕ) → NeverLate (unframe_byte most)
+frame_late most k b code place e = met_late most (with_rest k (k.rest ++ b ∷ [])) (k.rest ++ b ∷ []) code place e
+
+frame_short : (most : ℕ) (k : Kept) (n : ℕ) (r : List ℕ) → EachShort most (frame_has most k n r).chunks
+frame_short most k n r = by (nat_lt most n) (nat_eq (length r) n) refl refl where
+  within : (l : ℕ) → nat_lt most n ≡ false → nat_eq l n ≡ true → l ≤ most
+  within l e f = grind arith
+
+  by : (u v : Bool) → nat_lt most n ≡ u → nat_eq (length r) n ≡ v → EachShort most (if u then pushed k [] (Bad 4 (k.bytes - 4)) else if v then pushed (record k { rest = [] }) (r ∷ []) Fine else pushed k [] Fine).chunks
+  by true v e f = tt
+  by false true e f = (within (length r) e f, tt)
+  by false false e f = tt
+
+met_short : (most : ℕ) (k : Kept) (r : List ℕ) → EachShort most (frame_met most k r).chunks
+met_short most k [] = tt
+met_short most k (a ∷ []) = tt
+met_short most k (a ∷ b ∷ []) = tt
+met_short most k (a ∷ b ∷ c ∷ []) = tt
+met_short most k (a ∷ b ∷ c ∷ d ∷ r) = frame_short most k (four_bytes a b c d) r
+
+inside_short : (b : ℕ) (k : Kept) (r : List ℕ) → EachShort b (inside_end k r).chunks
+inside_short b k [] = tt
+inside_short b k (x ∷ r) = tt
+
+pub unframe : (most : ℤ) → IsKind (Unframe most)
+unframe most =
+    let m = nat_abs most in
+    record {
+      told = λ input h. says_all (FramesDone m) (FramesHeld m) (FrameWrong m) (λ b. b < 256) (unframe_byte m) (frames_stepwise m) (λ b cs r h. h.done) (frames_begin m) input (each_is_all (λ b. b < 256) input h);
+      late = each_never_late (unframe_byte m) (frame_late m);
+      fits = λ n l. tt;
+      longest = λ n. m;
+      short = λ n x r h. more_short (machine (Unframe most)) n m (λ k. Unit {0}) (λ k c i l. bytes_short (unframe_byte m) m (λ k. Unit {0}) (λ k b i. (met_short m (with_rest k (k.rest ++ b ∷ [])) (k.rest ++ b ∷ []), tt)) k c i)
+          (λ k i. inside_short m k k.rest) nothing_kept x.items x.mark tt h;
+      grows = λ n r. inr (let g = range_high most 0 1048576 r in omega arith);
+    }
+
+-- a length that is too large, and an end inside a frame
+length_too_large : ending (machines (Unframe (pos 4) ∷ [])) 0 (as_one (0 ∷ 0 ∷ 0 ∷ 0 ∷ 0 ∷ 0 ∷ 0 ∷ 5 ∷ 97 ∷ []) Closed) ≡ Bad 4 4
+length_too_large = refl
+
+end_inside : ending (machines (Unframe (pos 5) ∷ [])) 0 (as_one (0 ∷ 0 ∷ 0 ∷ 5 ∷ 97 ∷ []) Closed) ≡ Bad 5 5
+end_inside = refl
+
+end_inside_a_length : ending (machines (Unframe (pos 4) ∷ [])) 0 (as_one (255 ∷ []) Closed) ≡ Bad 5 1
+end_inside_a_length = refl
+
+empty_frame : reach (Unframe (pos 4) ∷ Hex ∷ []) (0 ∷ 0 ∷ 0 ∷ 0 ∷ 0 ∷ 0 ∷ 0 ∷ 1 ∷ 171 ∷ []) Closed ≡ told ([] ∷ codes "ab" ∷ []) Closed
+unfolding encode_with
+empty_frame = refl

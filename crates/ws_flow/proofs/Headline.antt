@@ -1,9 +1,9 @@
 use Rattle.std.proofs.Common.{◌≡◌, ℕ, true, false, List, sym, ap, ◌∙◌, subst, arith}
 use Rattle.ws_flow.specs.Machines.{all_through, ending}
 use Rattle.ws_flow.specs.Parts.{found}
-use Rattle.ws_flow.specs.Plans.{bytes_of, as_one, reach, sees_known_chunks}
+use Rattle.ws_flow.specs.Plans.{as_one, reach, sees_known_chunks}
 use Rattle.ws_flow.specs.Stages.{machines}
-use Rattle.ws_flow.specs.Told.{Mark, Open, Closed, Lost, Told, told, Begins, IsBefore}
+use Rattle.ws_flow.specs.Told.{bytes_of, Mark, Open, Closed, Lost, Told, told, Begins, IsBefore}
 use Rattle.ws_flow.proofs.Cutting.{joined_append, some_joined, Same, same_cut}
 use Rattle.ws_flow.proofs.Endings.{closed_all}
 use Rattle.ws_flow.proofs.Nodes.{Node, plan_of, parts_of, Linked, got_before, status_stage}

@@ -3,8 +3,8 @@ use Rattle.std.proofs.Common.{◌≡◌, ℕ, suc, ◌+◌, ◌<◌, ◌≤◌, 
 use Rattle.ws_flow.specs.Laws.{LiesShort, AreShort, EachLyingChunkIsShort}
 use Rattle.ws_flow.specs.Machines.{Kept, Machine, through, all_through}
 use Rattle.ws_flow.specs.Parts.{AtWork, Live, Over, Part, nothing_told, fresh, LiveAsked, Goes}
-use Rattle.ws_flow.specs.Plans.{is_in_range, is_hex}
-use Rattle.ws_flow.specs.Stages.{machine, machines}
+use Rattle.ws_flow.specs.Plans.{is_hex}
+use Rattle.ws_flow.specs.Stages.{is_in_range, machine, machines}
 use Rattle.ws_flow.specs.Steps.{parts_at}
 use Rattle.ws_flow.specs.Told.{Mark, Open, Closed, Lost, Told, goes_on, then_told, IsFront, IsBefore}
 use Rattle.ws_flow.proofs.Chain.{flows_before}

@@ -2,10 +2,10 @@ use Rattle.std.proofs.Common.{◌≡◌, ℕ, true, false, List, [], ◌∷◌, 
 use Rattle.ws_flow.specs.Chains.{Way, Host, Row, Came, Went, Member, Keeps, all_stages, all_parts, Onward, Chained}
 use Rattle.ws_flow.specs.Machines.{ending}
 use Rattle.ws_flow.specs.Parts.{found}
-use Rattle.ws_flow.specs.Plans.{bytes_of, as_one, reach, sees_known_chunks}
+use Rattle.ws_flow.specs.Plans.{as_one, reach, sees_known_chunks}
 use Rattle.ws_flow.specs.Rows.{told_by}
 use Rattle.ws_flow.specs.Stages.{machine, machines}
-use Rattle.ws_flow.specs.Told.{Closed, Told, IsBefore}
+use Rattle.ws_flow.specs.Told.{bytes_of, Closed, Told, IsBefore}
 use Rattle.ws_flow.proofs.Ends.{edge_before}
 use Rattle.ws_flow.proofs.Headline.{Run, run_got, run_stage, run_done}
 use Rattle.ws_flow.proofs.Nodes.{Node, plan_of, parts_of, Linked}

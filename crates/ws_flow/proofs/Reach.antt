@@ -1,9 +1,9 @@
 -- What is reached by a part of the bytes is a prefix of what is reached by all.
 use Rattle.std.proofs.Common.{◌≡◌, ℕ, true, false, List, ◌++◌, refl, sym, ap, ◌∙◌, subst}
-use Rattle.ws_flow.specs.Machines.{all_through}
-use Rattle.ws_flow.specs.Plans.{bytes_of, as_one, reach, sees_known_chunks}
-use Rattle.ws_flow.specs.Stages.{some_chunk, machines}
-use Rattle.ws_flow.specs.Told.{Mark, Open, Told, told, IsBefore}
+use Rattle.ws_flow.specs.Machines.{all_through, some_chunk}
+use Rattle.ws_flow.specs.Plans.{as_one, reach, sees_known_chunks}
+use Rattle.ws_flow.specs.Stages.{machines}
+use Rattle.ws_flow.specs.Told.{bytes_of, Mark, Open, Told, told, IsBefore}
 use Rattle.ws_flow.proofs.Cutting.{joined_append, some_joined, same_cut}
 use Rattle.ws_flow.proofs.Headline.{bytes_before}
 use Rattle.ws_flow.proofs.Through.{all_before}

@@ -1,14 +1,14 @@
--- What holds of each byte's step holds of all the bytes; and the steps of `lines` and `fixed`.
-use Rattle.std.proofs.Common.{◌≡◌, ◌≢◌, ℕ, ◌+◌, ◌<◌, ◌≤◌, Bool, true, false, List, [], ◌∷◌, ◌++◌, refl, sym, ap, ◌∙◌, subst, append_assoc, append-nil, length-append, arith, length, nat_eq, nat_lt}
-use Rattle.std.specs.Prelude.{if◌then◌else◌}
-use Rattle.ws_flow.specs.Machines.{Kept, Pushed}
-use Rattle.ws_flow.specs.Outputs.{SaysBy, Says, IsLine, LinesDone, LineWrong, BlocksDone, NeverWrong}
-use Rattle.ws_flow.specs.Stages.{pushed, nothing_kept, added, each_byte, with_rest, line_byte, block_byte}
-use Rattle.ws_flow.proofs.Cutting.{joined_append}
-use Rattle.ws_flow.specs.declared.plan.Ending.TheVariants.{Fine, Bad}
-use Rattle.ws_flow.specs.declared.plan.Ending.{Ending}
+-- What holds of each byte's step holds of all the bytes.
+use Rattle.std.proofs.Common.{◌≡◌, ℕ, ◌+◌, List, [], ◌∷◌, ◌++◌, length, append_assoc, append-nil, length-append, refl, sym, ap, ◌∙◌, subst}
 use Rattle.std.specs.List.{concat, All}
-use Rattle.std.proofs.lemmas.List.Elements.{All-nil, All-head, All-tail, All-push}
+use Rattle.std.proofs.lemmas.List.Elements.{All-head, All-tail}
+use Rattle.ws_flow.specs.declared.plan.Ending.{Ending}
+use Rattle.ws_flow.specs.declared.plan.Ending.TheVariants.{Fine, Bad}
+use Rattle.ws_flow.specs.Told.{then_told}
+use Rattle.ws_flow.specs.Machines.{Kept, Pushed, piece, at_end, through, pushed, nothing_kept, added, each_byte, Packing, AsCut, byte_machine}
+use Rattle.ws_flow.specs.Outputs.{SaysBy, Says, SaysAll}
+use Rattle.ws_flow.specs.Laws.{EachInputIsOne}
+use Rattle.ws_flow.proofs.Cutting.{joined_append, bytes_then, more_cut, more_bytes, verdict_bytes}
 
 -- each of the bytes is so
 abbrev pub EachIs : (ℕ → Type 0) → List ℕ → Type 0
@@ -76,85 +76,9 @@ pub whole_kept_here : (cs : List (List ℕ)) (rest : List ℕ) (before : List �
 whole_kept_here cs rest before b h =
     ap (λ q. concat q ++ (rest ++ b ∷ [])) (append-nil cs) ∙ sym (append_assoc (concat cs) rest (b ∷ [])) ∙ ap (λ q. q ++ b ∷ []) h
 
--- `lines`
-line_step : (most : ℕ) (before : List ℕ) (cs : List (List ℕ)) (k : Kept) (b : ℕ) (x y : Bool) → nat_eq b 10 ≡ x → nat_lt (length k.rest) most ≡ y → LinesDone most before cs k.rest →
-    let p = (if x then pushed (with_rest k []) ((k.rest ++ b ∷ []) ∷ []) Fine else if y then pushed (with_rest k (k.rest ++ b ∷ [])) [] Fine else pushed k [] (Bad 1 k.bytes)) in
-    StepSays (LinesDone most) (LineWrong most) before cs k b p.kept p.chunks p.ending
-line_step most before cs k b true y e f d = (
-  record {
-    whole = whole_cut_here cs k.rest before b d.whole;
-    lines = All-push (IsLine most) cs (k.rest ++ b ∷ []) d.lines (k.rest, ap (λ q. k.rest ++ q ∷ []) (is_feed b e), d.begun, d.short);
-    begun = All-nil (λ c. c ≢ 10);
-    short = omega arith;
-  },
-  refl,
-) where
-  is_feed : (b : ℕ) → nat_eq b 10 ≡ true → b ≡ 10
-  is_feed b e = grind arith
-line_step most before cs k b false true e f d = (
-  record {
-    whole = whole_kept_here cs k.rest before b d.whole;
-    lines = subst (λ q. All (IsLine most) q) (sym (append-nil cs)) d.lines;
-    begun = All-push (λ c. c ≢ 10) k.rest b d.begun (no_feed b e);
-    short = room (length k.rest) most (length (k.rest ++ b ∷ [])) f (length-append k.rest (b ∷ []));
-  },
-  refl,
-) where
-  no_feed : (b : ℕ) → nat_eq b 10 ≡ false → b ≢ 10
-  no_feed b e = grind arith
-
-  room : (n most m : ℕ) → nat_lt n most ≡ true → m ≡ n + 1 → m ≤ most
-  room n most m f e = grind arith
-line_step most before cs k b false false e f d = (refl, record { full = filled (length k.rest) most f d.short; no_feed = no_feed b e; code = refl; at = refl }) where
-  no_feed : (b : ℕ) → nat_eq b 10 ≡ false → b ≢ 10
-  no_feed b e = grind arith
-
-  filled : (n most : ℕ) → nat_lt n most ≡ false → n ≤ most → n ≡ most
-  filled n most f s = grind arith
-
-pub lines_stepwise : (most : ℕ) → Stepwise (λ b. Unit {0}) (LinesDone most) (LineWrong most) (line_byte most)
-lines_stepwise most = record { step = λ before cs k b x d n. line_step most before cs k b (nat_eq b 10) (nat_lt (length k.rest) most) refl refl d }
-
--- `fixed`
-block_step : (n : ℕ) (before : List ℕ) (cs : List (List ℕ)) (k : Kept) (b : ℕ) (x : Bool) → nat_eq (length k.rest + 1) n ≡ x → BlocksDone n before cs k.rest →
-    let p = (if x then pushed (with_rest k []) ((k.rest ++ b ∷ []) ∷ []) Fine else pushed (with_rest k (k.rest ++ b ∷ [])) [] Fine) in
-    StepSays (BlocksDone n) NeverWrong before cs k b p.kept p.chunks p.ending
-block_step n before cs k b true e d = (
-  record {
-    whole = whole_cut_here cs k.rest before b d.whole;
-    blocks = All-push (λ c. length c ≡ n) cs (k.rest ++ b ∷ []) d.blocks (full (length k.rest) n (length (k.rest ++ b ∷ [])) e (length-append k.rest (b ∷ [])));
-    short = some (length k.rest) n d.short;
-  },
-  refl,
-) where
-  full : (m n l : ℕ) → nat_eq (m + 1) n ≡ true → l ≡ m + 1 → l ≡ n
-  full m n l e f = grind arith
-
-  some : (m n : ℕ) → m < n → 0 < n
-  some m n h = omega arith
-block_step n before cs k b false e d = (
-  record {
-    whole = whole_kept_here cs k.rest before b d.whole;
-    blocks = subst (λ q. All (λ c. length c ≡ n) q) (sym (append-nil cs)) d.blocks;
-    short = room (length k.rest) n (length (k.rest ++ b ∷ [])) e d.short (length-append k.rest (b ∷ []));
-  },
-  refl,
-) where
-  room : (m n l : ℕ) → nat_eq (m + 1) n ≡ false → m < n → l ≡ m + 1 → l < n
-  room m n l e h f = grind arith
-
-pub blocks_stepwise : (n : ℕ) → Stepwise (λ b. Unit {0}) (BlocksDone n) NeverWrong (block_byte n)
-blocks_stepwise n = record { step = λ before cs k b x d m. block_step n before cs k b (nat_eq (length k.rest + 1) n) refl d }
-
 pub all_units : (bs : List ℕ) → EachIs (λ b. Unit {0}) bs
 all_units [] = tt
 all_units (b ∷ bs) = (tt, all_units bs)
-
-pub lines_begin : (most : ℕ) → LinesDone most [] [] []
-lines_begin most = record { whole = refl; lines = All-nil (IsLine most); begun = All-nil (λ c. c ≢ 10); short = omega arith }
-
-pub blocks_begin : (n : ℕ) → 0 < n → BlocksDone n [] [] []
-blocks_begin n h = record { whole = refl; blocks = All-nil (λ c. length c ≡ n); short = h }
 
 -- what says more says less
 pub says_less : (Done Less : List ℕ → List (List ℕ) → List ℕ → Type 0) (Wrong : List (List ℕ) → List ℕ → ℕ → ℕ → ℕ → ℕ → Type 0) → ((b : List ℕ) (cs : List (List ℕ)) (r : List ℕ) → Done b cs r → Less b cs r) →
@@ -169,3 +93,22 @@ counted_fine (Bad c p) k n h e = cc
 pub each_is_all : (P : ℕ → Type 0) (bs : List ℕ) → All P bs → EachIs P bs
 each_is_all P [] h = tt
 each_is_all P (b ∷ bs) h = (All-head P b bs h, each_is_all P bs (All-tail P b bs h))
+
+-- a stage that sees bytes sees all its input's bytes at once
+pub input_is_one : EachInputIsOne
+input_is_one w f g x =
+    let m = byte_machine w f g in
+    let p = each_byte f nothing_kept (concat x.items) in (
+      more_bytes w f g nothing_kept x.items x.mark ∙ sym (bytes_then (piece p) (at_end m p.kept x.mark)),
+      λ e. as_cut w e,
+      verdict_bytes w f g nothing_kept x.items x.mark,
+    ) where
+      as_cut : (w : Packing) → w ≡ AsCut → through (byte_machine w f g) nothing_kept x ≡ then_told (piece (each_byte f nothing_kept (concat x.items))) (at_end (byte_machine w f g) (each_byte f nothing_kept (concat x.items)).kept x.mark)
+      as_cut w e = subst (λ w. through (byte_machine w f g) nothing_kept x ≡ then_told (piece (each_byte f nothing_kept (concat x.items))) (at_end (byte_machine w f g) (each_byte f nothing_kept (concat x.items)).kept x.mark)) (sym e) (more_cut f g nothing_kept x.items x.mark)
+
+-- what is said of its steps is said of all of them
+pub says_all : (Done Held : List ℕ → List (List ℕ) → List ℕ → Type 0) (Wrong : List (List ℕ) → List ℕ → ℕ → ℕ → ℕ → ℕ → Type 0) (P : ℕ → Type 0) (f : Kept → ℕ → Pushed) → Stepwise P Held Wrong f → ((b : List ℕ) (cs : List (List ℕ)) (r : List ℕ) → Held b cs r → Done b cs r) → Held [] [] [] → (input : List ℕ) → EachIs P input → SaysAll Done Wrong f input
+says_all Done Held Wrong P f w less begin input h =
+    let p = each_byte f nothing_kept input in
+    let r = each_says P Held Wrong f w input h begin in
+    (says_less Held Done Wrong less input p.chunks p.kept.rest p.ending r.0, counted_fine p.ending p.kept (length input) r.1)

@@ -2,9 +2,8 @@
 use Rattle.std.specs.Prelude.{◌≡◌, ℕ, List, [], ◌∷◌, ◌++◌}
 use Rattle.ws_value.specs.declared.value.Message.{Message}
 use Rattle.ws_flow.specs.declared.plan.Stage.{Stage}
-use Rattle.ws_flow.specs.Told.{Told, then_told, IsBefore}
+use Rattle.ws_flow.specs.Told.{Told, then_told, IsBefore, bytes_of}
 use Rattle.ws_flow.specs.Stages.{machines}
-use Rattle.ws_flow.specs.Plans.{bytes_of}
 use Rattle.ws_flow.specs.Parts.{Part, Flows}
 use Rattle.ws_flow.specs.Rows.{told_by}
 

@@ -1,16 +1,14 @@
 -- What holds of every stage, every node and every run.
-use Rattle.std.specs.Prelude.{◌≡◌, ◌≢◌, ℕ, ℤ, ◌<◌, ◌≤◌, true, false, List, [], ◌∷◌, ◌++◌, length, None, pos, nat_abs, int_le}
+use Rattle.std.specs.Prelude.{◌≡◌, ◌≢◌, ℕ, ◌<◌, ◌≤◌, true, false, List, [], ◌∷◌, ◌++◌, length, None, pos, nat_abs, int_le}
 use Rattle.std.specs.List.{concat, All, count_by, list_all}
 use Rattle.ws_value.specs.declared.value.Message.{Message}
 use Rattle.ws_flow.specs.declared.plan.Ending.TheVariants.{Fine, Bad}
 use Rattle.ws_flow.specs.declared.plan.Plan.{Plan}
 use Rattle.ws_flow.specs.declared.plan.Stage.{Stage}
-use Rattle.ws_flow.specs.declared.plan.Stage.TheVariants.{Hex, Unhex, Mask, Frame, Unframe}
-use Rattle.ws_flow.specs.Told.{Mark, Open, Closed, Lost, Told, told, then_told, IsShortOf, IsBefore}
-use Rattle.ws_flow.specs.Machines.{Machine, Kept, Pushed, piece, at_end, through, keeps, or_else, end_verdict, verdict, all_through, ending}
-use Rattle.ws_flow.specs.Stages.{nothing_kept, each_byte, Packing, AsCut, byte_machine, line_byte, block_byte, unframe_byte, unhex_byte, machine, machines}
-use Rattle.ws_flow.specs.Outputs.{Says, LinesDone, LineWrong, BlocksDone, NeverWrong, FramesDone, FrameWrong, DigitsDone, DigitWrong}
-use Rattle.ws_flow.specs.Plans.{bytes_of, as_one, reach, sees_known_chunks, stages_of, is_hex, is_in_range, are_numbers_within, are_in_order, each_has_stage, refusal}
+use Rattle.ws_flow.specs.Told.{Mark, Open, Closed, Lost, Told, then_told, IsShortOf, IsBefore, bytes_of}
+use Rattle.ws_flow.specs.Machines.{Machine, Kept, Pushed, piece, at_end, through, keeps, or_else, end_verdict, verdict, all_through, ending, nothing_kept, each_byte, Packing, AsCut, byte_machine}
+use Rattle.ws_flow.specs.Stages.{machines, IsTold, is_in_range}
+use Rattle.ws_flow.specs.Plans.{as_one, reach, sees_known_chunks, stages_of, is_hex, are_numbers_within, are_in_order, each_has_stage, refusal}
 use Rattle.ws_flow.specs.Parts.{AtWork, Live, Over, Part, Goes, Flows, residual, found}
 use Rattle.ws_flow.specs.Rows.{Place, in_place, LinkKeeps, Turned, Relates}
 use Rattle.ws_flow.specs.Chains.{Member, Chained, all_stages, all_parts}
@@ -100,46 +98,9 @@ EachInputIsOne =
     (w ≡ AsCut → through m m.start x ≡ then_told (piece p) (at_end m p.kept x.mark)) ×
     (verdict m m.start x.items x.mark ≡ or_else p.ending (end_verdict m p.kept x.mark))
 
--- what comes of all the bytes of an input, and that they are counted where that is fine
-abbrev pub SaysAll : (List ℕ → List (List ℕ) → List ℕ → Type 0) → (List (List ℕ) → List ℕ → ℕ → ℕ → ℕ → ℕ → Type 0) → (Kept → ℕ → Pushed) → List ℕ → Type 0
-SaysAll Done Wrong f input =
-    let p = each_byte f nothing_kept input in
-    (Says Done Wrong input p) × (p.ending ≡ Fine → p.kept.bytes ≡ length input)
-
-abbrev pub EachLineIsCut : Type 0
-EachLineIsCut = (most : ℕ) (input : List ℕ) → SaysAll (LinesDone most) (LineWrong most) (line_byte most) input
-
-abbrev pub EachBlockIsCut : Type 0
-EachBlockIsCut = (n : ℕ) (input : List ℕ) → 0 < n → SaysAll (BlocksDone n) NeverWrong (block_byte n) input
-
-abbrev pub EachFrameIsRead : Type 0
-EachFrameIsRead =
-    (most : ℕ) (input : List ℕ) → All (λ b. b < 256) input → SaysAll (FramesDone most) (FrameWrong most) (unframe_byte most) input
-
-abbrev pub EachDigitIsRead : Type 0
-EachDigitIsRead = (input : List ℕ) → SaysAll DigitsDone DigitWrong unhex_byte input
-
--- a stage that gives these chunks for the chunks that come, and is always fine
-abbrev pub Gives : Stage → (List (List ℕ) → List (List ℕ)) → Type 0
-Gives s f =
-    (x : Told (List ℕ)) →
-    (through (machine s) (machine s).start x ≡ told (f x.items) x.mark) × (verdict (machine s) (machine s).start x.items x.mark ≡ Fine)
-
--- `unhex` of `hex` is the input
-abbrev pub EachTextReadsBack : Type 0
-EachTextReadsBack =
-    (x : Told (List ℕ)) → All (λ b. b < 256) (concat x.items) →
-    (bytes_of (all_through (machines (Hex ∷ Unhex ∷ [])) x) ≡ bytes_of x) × (ending (machines (Hex ∷ Unhex ∷ [])) 1 x ≡ Fine)
-
--- `unframe` of `frame` is the chunks
-abbrev pub EachFrameReadsBack : Type 0
-EachFrameReadsBack =
-    (most : ℤ) (x : Told (List ℕ)) → nat_abs most < 4294967296 → All (λ c. length c ≤ nat_abs most) x.items →
-    (all_through (machines (Frame ∷ Unframe most ∷ [])) x ≡ x) × (ending (machines (Frame ∷ Unframe most ∷ [])) 1 x ≡ Fine)
-
--- what is masked twice isn't masked
-abbrev pub EachMaskTwiceIsNone : Type 0
-EachMaskTwiceIsNone = (key : List ℕ) (x : Told (List ℕ)) → all_through (machines (Mask key ∷ Mask key ∷ [])) x ≡ x
+-- and what each stage puts out is what is told of it without its machine
+abbrev pub EachOutputIsTold : Type 0
+EachOutputIsTold = (s : Stage) → IsTold s
 
 -- No chunk that comes out reaches 2^25 bytes, where the pieces of the input have at most 4,096: of stages whose numbers are in their
 -- range, at most 16 of them and at most 4 `hex`

@@ -1,5 +1,6 @@
--- A stage as a machine: what it keeps, what comes out of a chunk, and what the end adds.
-use Rattle.std.specs.Prelude.{ℕ, zero, suc, List, [], ◌∷◌}
+-- A stage as a machine: what it keeps, what comes out of a chunk, and what the end adds. Most are told byte by byte.
+use Rattle.std.specs.Prelude.{ℕ, zero, suc, ◌+◌, List, [], ◌∷◌, ◌++◌}
+use Rattle.std.specs.List.{concat}
 use Rattle.ws_flow.specs.declared.plan.Ending.{Ending}
 use Rattle.ws_flow.specs.declared.plan.Ending.TheVariants.{Fine, Bad}
 use Rattle.ws_flow.specs.Told.{Mark, Open, Closed, Lost, Told, told, then_told}
@@ -76,3 +77,72 @@ abbrev pub ending : List Machine → ℕ → Told (List ℕ) → Ending
 ending [] j x = Fine
 ending (m ∷ ms) zero x = verdict m m.start x.items x.mark
 ending (m ∷ ms) (suc j) x = ending ms j (through m m.start x)
+
+-- Machines that are told byte by byte, or chunk by chunk
+
+abbrev pub pushed : Kept → List (List ℕ) → Ending → Pushed
+pushed k cs e = record { kept = k; chunks = cs; ending = e }
+
+abbrev pub nothing_kept : Kept
+nothing_kept = record { rest = []; bytes = 0; chunks = 0 }
+
+-- one byte more, and this is what isn't done with
+abbrev pub with_rest : Kept → List ℕ → Kept
+with_rest k r = record k { rest = r; bytes = k.bytes + 1 }
+
+-- one byte more, and one chunk more
+abbrev pub one_byte : Kept → Kept
+one_byte k = record k { bytes = k.bytes + 1 }
+
+abbrev pub one_more : Kept → Kept
+one_more k = record k { chunks = k.chunks + 1 }
+
+-- first these, and what comes of the rest where they ended fine
+abbrev pub added : List (List ℕ) → Ending → Kept → Pushed → Pushed
+added cs Fine k r = record { kept = r.kept; chunks = cs ++ r.chunks; ending = r.ending }
+added cs (Bad c p) k r = record { kept = k; chunks = cs; ending = Bad c p }
+
+abbrev pub each_byte : (Kept → ℕ → Pushed) → Kept → List ℕ → Pushed
+each_byte f k [] = pushed k [] Fine
+each_byte f k (b ∷ bs) = let p = f k b in added p.chunks p.ending p.kept (each_byte f p.kept bs)
+
+-- how what came of one chunk's bytes is handed on
+pub data Packing : Type 0 where
+  -- each as it came
+  AsCut : Packing
+  -- as one chunk
+  One : Packing
+  -- as one chunk, where there is a byte
+  SomeBytes : Packing
+
+abbrev pub some_chunk : List ℕ → List (List ℕ)
+some_chunk [] = []
+some_chunk (b ∷ bs) = (b ∷ bs) ∷ []
+
+abbrev pub packed : Packing → List (List ℕ) → List (List ℕ)
+packed AsCut cs = cs
+packed One cs = concat cs ∷ []
+packed SomeBytes cs = some_chunk (concat cs)
+
+abbrev pub byte_push : Packing → (Kept → ℕ → Pushed) → Kept → List ℕ → Pushed
+byte_push w f k c = let p = each_byte f k c in record p { chunks = packed w p.chunks }
+
+abbrev pub byte_machine : Packing → (Kept → ℕ → Pushed) → (Kept → Pushed) → Machine
+byte_machine w f g = record { start = nothing_kept; push = byte_push w f; flush = g }
+
+abbrev pub no_more : Kept → Pushed
+no_more k = pushed k [] Fine
+
+abbrev pub chunk_machine : (Kept → List ℕ → Pushed) → Machine
+chunk_machine f = record { start = nothing_kept; push = f; flush = no_more }
+
+-- what a stage sees of its input
+pub data Form : Type 0 where
+  -- its bytes: how what comes of a chunk is handed on, what comes of a byte, and what the end adds
+  OfBytes : Packing → (Kept → ℕ → Pushed) → (Kept → Pushed) → Form
+  -- its chunks too: what comes of one
+  OfChunks : (Kept → List ℕ → Pushed) → Form
+
+abbrev pub machine_of : Form → Machine
+machine_of (OfBytes w f g) = byte_machine w f g
+machine_of (OfChunks f) = chunk_machine f

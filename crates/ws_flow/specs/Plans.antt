@@ -1,19 +1,15 @@
 -- What a plan puts out, how its stages end, and which plans are refused.
-use Rattle.std.specs.Prelude.{ℕ, zero, suc, ℤ, pos, ◌&&◌, ◌==◌, not, Bool, true, false, List, [], ◌∷◌, Option, Some, None, length, map, if◌then◌else◌, nat_lt, nat_le, int_le, nat_abs}
-use Rattle.std.specs.List.{concat, count_by, list_all, list_any}
+use Rattle.std.specs.Prelude.{ℕ, zero, suc, ℤ, pos, ◌&&◌, ◌==◌, not, Bool, true, false, List, [], ◌∷◌, Option, Some, None, length, map, if◌then◌else◌, nat_lt, int_le, nat_abs}
+use Rattle.std.specs.List.{count_by, list_all, list_any}
 use Rattle.ws_flow.specs.declared.plan.Stage.{Stage}
-use Rattle.ws_flow.specs.declared.plan.Stage.TheVariants.{Lines, Fixed, Hex, Unhex, Mask, Number, Frame, Unframe}
+use Rattle.ws_flow.specs.declared.plan.Stage.TheVariants.{Hex}
 use Rattle.ws_flow.specs.declared.plan.Placed.{Placed}
 use Rattle.ws_flow.specs.declared.plan.Plan.{Plan}
 use Rattle.ws_flow.specs.declared.refusal.Refusal.{Refusal}
 use Rattle.ws_flow.specs.declared.refusal.Refusal.TheVariants.{TooManyStages, OutOfRange, TooManyHex, SeesCutting, TooManyWorkers, WorkersOutOfOrder, IdleWorker}
 use Rattle.ws_flow.specs.Told.{Mark, Told, told}
-use Rattle.ws_flow.specs.Machines.{all_through}
-use Rattle.ws_flow.specs.Stages.{machines, some_chunk}
-
--- the bytes that were told
-abbrev pub bytes_of : Told (List ℕ) → Told ℕ
-bytes_of x = told (concat x.items) x.mark
+use Rattle.ws_flow.specs.Machines.{all_through, some_chunk, AsCut, One, SomeBytes, Form, OfBytes, OfChunks}
+use Rattle.ws_flow.specs.Stages.{form, machines, is_within, is_in_range}
 
 -- bytes as one chunk, or as none where there are none
 abbrev pub as_one : List ℕ → Mark → Told (List ℕ)
@@ -26,28 +22,22 @@ reach ss b m = all_through (machines ss) (as_one b m)
 abbrev pub stages_of : Plan → List Stage
 stages_of plan = map (λ p. p.stage) plan.stages.items
 
+-- whether a stage may stand where it is `known` that the cutting of its input doesn't depend on how that of the plan was cut
+abbrev pub may_see : Bool → Form → Bool
+may_see known (OfBytes w f g) = true
+may_see known (OfChunks f) = known
+
+-- and whether the same is known of what it hands on
+abbrev pub is_known : Bool → Form → Bool
+is_known known (OfBytes AsCut f g) = true
+is_known known (OfBytes One f g) = known
+is_known known (OfBytes SomeBytes f g) = false
+is_known known (OfChunks f) = known
+
 -- whether no stage sees chunks whose cutting depends on how the input was cut
 abbrev pub sees_known_chunks : Bool → List Stage → Bool
 sees_known_chunks known [] = true
-sees_known_chunks known (Lines n ∷ ss) = sees_known_chunks true ss
-sees_known_chunks known (Fixed n ∷ ss) = sees_known_chunks true ss
-sees_known_chunks known (Unframe n ∷ ss) = sees_known_chunks true ss
-sees_known_chunks known (Unhex ∷ ss) = sees_known_chunks false ss
-sees_known_chunks known (Hex ∷ ss) = sees_known_chunks known ss
-sees_known_chunks known (Mask key ∷ ss) = sees_known_chunks known ss
-sees_known_chunks known (Number ∷ ss) = known && sees_known_chunks known ss
-sees_known_chunks known (Frame ∷ ss) = known && sees_known_chunks known ss
-
-abbrev pub is_within : ℕ → ℕ → ℤ → Bool
-is_within low high x = int_le (pos low) x && int_le x (pos high)
-
--- whether a stage's number, or the length of its key, is in its range
-abbrev pub is_in_range : Stage → Bool
-is_in_range (Lines most) = is_within 1 1048576 most
-is_in_range (Fixed n) = is_within 1 65536 n
-is_in_range (Mask key) = nat_le 1 (length key) && nat_le (length key) 64
-is_in_range (Unframe most) = is_within 0 1048576 most
-is_in_range _ = true
+sees_known_chunks known (s ∷ ss) = may_see known (form s) && sees_known_chunks (is_known known (form s)) ss
 
 -- a worker is one of the plan's, or the caller where it has none
 abbrev pub is_placed_within : ℤ → Placed → Bool

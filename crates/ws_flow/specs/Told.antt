@@ -1,5 +1,6 @@
 -- What was told so far on one way: a list, and whether more may come.
-use Rattle.std.specs.Prelude.{◌≡◌, List, ◌++◌}
+use Rattle.std.specs.Prelude.{◌≡◌, ℕ, List, ◌++◌}
+use Rattle.std.specs.List.{concat}
 
 pub data Mark : Type 0 where
   -- more may come
@@ -46,3 +47,7 @@ Begins xs Lost y = IsFront xs y.items
 
 abbrev pub IsBefore : {A : Type 0} → Told A → Told A → Type 0
 IsBefore x y = Begins x.items x.mark y
+
+-- the bytes that were told
+abbrev pub bytes_of : Told (List ℕ) → Told ℕ
+bytes_of x = told (concat x.items) x.mark

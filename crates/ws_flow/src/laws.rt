@@ -1,11 +1,7 @@
 //! Laws over what stages put out and what flows through nodes, each said of the definitions alone.
 
-ghost use Rattle.std.specs.Prelude.{ℕ, List, map};
-ghost use Rattle.hex.specs.Hex.{encode_lower};
-ghost use Rattle.ws_flow.specs.declared.plan.Stage.TheVariants.{Frame, Hex, Mask, Number};
-ghost use Rattle.ws_flow.specs.Stages.{framed};
-ghost use Rattle.ws_flow.specs.Outputs.{each_masked, each_numbered};
-ghost use Rattle.ws_flow.specs.Laws.{EachAcceptedPlan, EachBlockIsCut, EachChunkIsShort, EachCloseIsWhole, EachCuttingIsAlike, EachDigitIsRead, EachEndingStays, EachFaultIsFound, EachFinishIsWhole, EachFirstBytesStay, EachFirstPartStays, EachFlowGoesOn, EachFrameIsRead, EachFrameReadsBack, EachInputIsOne, EachLineIsCut, EachLyingChunkIsShort, EachMaskTwiceIsNone, EachNodeFlows, EachPlaceKeeps, EachRunFlows, EachTextReadsBack, EachTurnKeeps, Gives};
+ghost use Rattle.ws_flow.specs.Stages.{EachPairUndoes};
+ghost use Rattle.ws_flow.specs.Laws.{EachAcceptedPlan, EachChunkIsShort, EachCloseIsWhole, EachCuttingIsAlike, EachEndingStays, EachFaultIsFound, EachFinishIsWhole, EachFirstBytesStay, EachFirstPartStays, EachFlowGoesOn, EachInputIsOne, EachLyingChunkIsShort, EachNodeFlows, EachOutputIsTold, EachPlaceKeeps, EachRunFlows, EachTurnKeeps};
 
 /// What comes out of stages for a first part of an input is a first part of what comes out for all of it, and goes on
 /// as more comes in.
@@ -80,21 +76,12 @@ pub fn each_run_flows()
 /// Of: stages.
 pub fn each_output_is_told()
     ensures input { EachInputIsOne }
-    ensures lines { EachLineIsCut }
-    ensures fixed { EachBlockIsCut }
-    ensures unframe { EachFrameIsRead }
-    ensures unhex { EachDigitIsRead }
-    ensures hex { Gives Hex (map encode_lower) }
-    ensures mask { (key : List ℕ) → Gives (Mask key) (each_masked key 0) }
-    ensures number { Gives Number (each_numbered 1) }
-    ensures frame { Gives Frame (map framed) }
+    ensures output { EachOutputIsTold }
 {}
 
 /// `unhex` of `hex`, `unframe` of `frame`, and `mask` twice give back what went in.
 ///
 /// Of: stages.
 pub fn each_pair_undoes()
-    ensures unhex { EachTextReadsBack }
-    ensures unframe { EachFrameReadsBack }
-    ensures mask { EachMaskTwiceIsNone }
+    ensures { EachPairUndoes }
 {}

@@ -10,7 +10,7 @@ pub enum Refusal {
     /// It isn't TOML: its text isn't UTF-8, has an error, gives a key twice, or has an integer outside 64 bits.
     NotToml = 9,
 
-    /// A key is missing, unknown or of the wrong type; or a mask's key isn't an even number of hexadecimal digits.
+    /// A key is missing, unknown or of the wrong type; or one of bytes isn't an even number of hexadecimal digits.
     WrongKey = 10,
 
     /// `version` is another integer than 1.
