@@ -3,8 +3,7 @@ use Rattle.std.proofs.Common.{◌≡◌, ◌≢◌, ℕ, ◌+◌, ◌<◌, List,
 use Rattle.std.proofs.lemmas.List.{take_more, take-append-drop}
 use Rattle.ws_flow.specs.declared.plan.Ending.{Ending}
 use Rattle.ws_flow.specs.declared.plan.Ending.TheVariants.{Fine, Bad}
-use Rattle.ws_flow.specs.Machines.{Kept, Pushed}
-use Rattle.ws_flow.specs.Stages.{pushed, added, each_byte}
+use Rattle.ws_flow.specs.Machines.{Kept, Pushed, pushed, added, each_byte}
 use Rattle.ws_flow.proofs.Cutting.{each_append}
 use Rattle.ws_stages.specs.Cuts.{with_chunks}
 

@@ -4,8 +4,8 @@ use Rattle.std.proofs.lemmas.Bool.Decides.{nat_tests}
 use Rattle.std.proofs.lemmas.List.{take-append-drop}
 use Rattle.ws_flow.specs.declared.plan.Ending.{Ending}
 use Rattle.ws_flow.specs.declared.plan.Ending.TheVariants.{Fine}
-use Rattle.ws_flow.specs.Machines.{Kept, Pushed}
-use Rattle.ws_flow.specs.Stages.{pushed, added, each_byte, line_byte}
+use Rattle.ws_flow.specs.Machines.{Kept, Pushed, pushed, added, each_byte}
+use Rattle.ws_flow.specs.Stages.{line_byte}
 use Rattle.ws_flow.proofs.Cutting.{each_append}
 use Rattle.ws_stages.proofs.Bytes.{after_fine, each_bad}
 use Rattle.ws_stages.specs.Cuts.{HasNoFeed, with_bytes, with_chunks}

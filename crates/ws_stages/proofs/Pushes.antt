@@ -1,31 +1,27 @@
--- A chunk at once, where a stage is defined byte by byte.
-use Rattle.std.proofs.Common.{◌≡◌, ℕ, ◌+◌, ◌<◌, List, [], ◌∷◌, refl, sym, ap, ◌∙◌, length, arith}
+-- What a stage hands on as one chunk.
+use Rattle.std.proofs.Common.{◌≡◌, ℕ, ◌+◌, ◌<◌, List, [], ◌∷◌, ◌++◌, refl, sym, ap, ◌∙◌, length, arith}
 use Rattle.std.specs.List.{concat}
-use Rattle.hex.specs.Hex.{encode_lower}
 use Rattle.ws_flow.specs.declared.plan.Ending.{Ending}
 use Rattle.ws_flow.specs.declared.plan.Ending.TheVariants.{Fine}
-use Rattle.ws_flow.specs.Machines.{Kept}
-use Rattle.ws_flow.specs.Stages.{pushed, each_byte, hex_byte, mask_byte, unhex_byte, byte_push, some_chunk, One, SomeBytes}
-use Rattle.ws_flow.specs.Outputs.{masked}
-use Rattle.ws_flow.proofs.Maps.{hex_bytes, mask_bytes}
-use Rattle.ws_stages.specs.Cuts.{with_text}
+use Rattle.ws_flow.specs.Machines.{Kept, Pushed, pushed, each_byte, byte_push, some_chunk, One, SomeBytes}
+use Rattle.ws_flow.specs.Stages.{unhex_byte}
+use Rattle.ws_stages.specs.declared.cut.Cut.{Cut}
+use Rattle.ws_stages.specs.Cuts.{CanTake, handing, kept_of, with_text}
 
-pub hex_push : (rest c : List ℕ) (y n : ℕ) → rest ≡ [] → pushed (record { rest = rest; bytes = y + length c; chunks = n }) (encode_lower c ∷ []) Fine ≡ byte_push One hex_byte (record { rest = rest; bytes = y; chunks = n }) c
-hex_push rest c y n e =
-    let b = hex_bytes y n c in
-    ap (λ r. pushed (record { rest = r; bytes = y + length c; chunks = n }) (encode_lower c ∷ []) Fine) e
-    ∙ ap (λ k. pushed k (encode_lower c ∷ []) Fine) (sym b.2) ∙ ap (λ t. pushed (each_byte hex_byte (record { rest = []; bytes = y; chunks = n }) c).kept (t ∷ []) Fine) (sym b.0)
-    ∙ ap (λ z. pushed (each_byte hex_byte (record { rest = []; bytes = y; chunks = n }) c).kept (concat (each_byte hex_byte (record { rest = []; bytes = y; chunks = n }) c).chunks ∷ []) z) (sym b.1)
-    ∙ ap (λ r. byte_push One hex_byte (record { rest = r; bytes = y; chunks = n }) c) (sym e)
+-- where nothing came out before, and all was fine
+pub handing_is : (cut : Cut) (n : ℕ) (chunk text : List ℕ) → CanTake cut n → chunk ≡ text → handing cut n chunk ≡ pushed (record (kept_of cut) { bytes = cut.bytes + n }) (text ∷ []) Fine
+handing_is cut n chunk text room e =
+    let k = record (kept_of cut) { bytes = cut.bytes + n } in
+    ap (λ q. pushed k (q ++ chunk ∷ []) cut.ending) room.chunks ∙ ap (λ q. pushed k (q ∷ []) cut.ending) e ∙ ap (λ q. pushed k (text ∷ []) q) room.fine
 
-pub mask_push : (key rest c : List ℕ) (y n : ℕ) → rest ≡ [] → pushed (record { rest = rest; bytes = y + length c; chunks = n }) (masked key y c ∷ []) Fine ≡ byte_push One (mask_byte key) (record { rest = rest; bytes = y; chunks = n }) c
-mask_push key rest c y n e =
-    let b = mask_bytes key y n c in
-    ap (λ r. pushed (record { rest = r; bytes = y + length c; chunks = n }) (masked key y c ∷ []) Fine) e
-    ∙ ap (λ k. pushed k (masked key y c ∷ []) Fine) (sym b.2) ∙ ap (λ t. pushed (each_byte (mask_byte key) (record { rest = []; bytes = y; chunks = n }) c).kept (t ∷ []) Fine) (sym b.0)
-    ∙ ap (λ z. pushed (each_byte (mask_byte key) (record { rest = []; bytes = y; chunks = n }) c).kept (concat (each_byte (mask_byte key) (record { rest = []; bytes = y; chunks = n }) c).chunks ∷ []) z) (sym b.1)
-    ∙ ap (λ r. byte_push One (mask_byte key) (record { rest = r; bytes = y; chunks = n }) c) (sym e)
+-- bytes that were all fine, with what came of them
+pub one_push : (f : Kept → ℕ → Pushed) (k j : Kept) (c text : List ℕ) → (concat (each_byte f k c).chunks ≡ text) × ((each_byte f k c).ending ≡ Fine) × ((each_byte f k c).kept ≡ j) →
+    pushed j (text ∷ []) Fine ≡ byte_push One f k c
+one_push f k j c text b =
+    let p = each_byte f k c in
+    ap (λ q. pushed q (text ∷ []) Fine) (sym b.2) ∙ ap (λ t. pushed p.kept (t ∷ []) Fine) (sym b.0) ∙ ap (λ z. pushed p.kept (concat p.chunks ∷ []) z) (sym b.1)
 
+-- `unhex`
 text_is : (a b : List ℕ) → a ∷ [] ≡ b ∷ [] → a ≡ b
 text_is a b h = cc
 

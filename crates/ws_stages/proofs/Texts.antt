@@ -1,51 +1,14 @@
 -- The bytes of a text, one after another.
-use Rattle.std.proofs.Common.{◌≡◌, ◌≢◌, ◌⊎◌, ℕ, suc, ◌+◌, ◌*◌, ◌%◌, ◌<◌, ◌||◌, true, false, List, [], ◌∷◌, ◌++◌, Some, None, refl, sym, ap, ◌∙◌, append-nil, length, take, get_or, nat_eq, bit_xor, arith}
+use Rattle.std.proofs.Common.{◌≡◌, ◌≢◌, ◌⊎◌, ℕ, ◌+◌, ◌*◌, ◌<◌, ◌||◌, true, false, List, [], ◌∷◌, ◌++◌, Some, None, refl, sym, ap, ◌∙◌, append-nil, length, get_or, nat_eq, arith}
 use Rattle.std.specs.Prelude.{if◌then◌else◌}
 use Rattle.std.specs.List.{concat}
-use Rattle.std.proofs.Math.Nat.{suc-mod, mod_self, mod-eq_of_lt}
-use Rattle.std.proofs.lemmas.List.{take_more}
 use Rattle.hex.specs.Hex.{hex_digit_value}
 use Rattle.ws_flow.specs.declared.plan.Ending.TheVariants.{Fine, Bad}
-use Rattle.ws_flow.specs.Machines.{Kept, Pushed}
-use Rattle.ws_flow.specs.Stages.{pushed, added, each_byte, with_rest, unhex_byte, digit_met}
-use Rattle.ws_flow.specs.Outputs.{masked}
+use Rattle.ws_flow.specs.Machines.{Kept, Pushed, pushed, added, each_byte, with_rest}
+use Rattle.ws_flow.specs.Stages.{unhex_byte, digit_met}
 use Rattle.ws_flow.proofs.Cutting.{each_append, joined_append}
 use Rattle.ws_stages.specs.Cuts.{with_text, IsHalf}
 use Rattle.ws_stages.proofs.Bytes.{each_one, each_bad}
-
--- `mask`
-masked-append : (key : List ℕ) (p : ℕ) (a b : List ℕ) → masked key p (a ++ b) ≡ masked key p a ++ masked key (p + length a) b
-masked-append key p [] b = ap (λ q. masked key q b) (p_zero p) where
-  p_zero : (p : ℕ) → p ≡ p + 0
-  p_zero p = omega arith
-masked-append key p (x ∷ a) b =
-    ap (λ q. bit_xor x (get_or key (p % length key) 0) ∷ q) (masked-append key (p + 1) a b)
-    ∙ ap (λ q. bit_xor x (get_or key (p % length key) 0) ∷ (masked key (p + 1) a ++ masked key q b)) (one_on p (length a)) where
-      one_on : (p l : ℕ) → p + 1 + l ≡ p + suc l
-      one_on p l = omega arith
-
-pub masked_more : (key : List ℕ) (p i at : ℕ) (bs text : List ℕ) → i < length bs → text ≡ masked key p (take i bs) → at ≡ (p + i) % length key → length (take i bs) ≡ i →
-    text ++ bit_xor (get_or bs i 0) (get_or key at 0) ∷ [] ≡ masked key p (take (i + 1) bs)
-masked_more key p i at bs text h t a l =
-    ap (λ q. text ++ bit_xor (get_or bs i 0) (get_or key q 0) ∷ []) (a ∙ ap (λ q. (p + q) % length key) (sym l))
-    ∙ ap (λ q. q ++ bit_xor (get_or bs i 0) (get_or key ((p + length (take i bs)) % length key) 0) ∷ []) t
-    ∙ sym (masked-append key p (take i bs) (get_or bs i 0 ∷ []))
-    ∙ ap (λ q. masked key p q) (sym (take_more bs i 0 h))
-
-pub next_place : (x n at : ℕ) → at ≡ x % n → at + 1 < n → at + 1 ≡ (x + 1) % n
-next_place x n at h lt = sym (mod-eq_of_lt lt) ∙ ap (λ q. (q + 1) % n) h ∙ suc_form (x % n) n ∙ sym (suc-mod x n) ∙ plus_form x n where
-  suc_form : (a n : ℕ) → (a + 1) % n ≡ suc a % n
-  suc_form a n = ap (λ q. q % n) (one a) where
-    one : (a : ℕ) → a + 1 ≡ suc a
-    one a = omega arith
-
-  plus_form : (a n : ℕ) → suc a % n ≡ (a + 1) % n
-  plus_form a n = sym (suc_form a n)
-
-pub first_place : (x n at : ℕ) → at ≡ x % n → at + 1 ≡ n → 0 ≡ (x + 1) % n
-first_place x n at h e = sym (mod_self n) ∙ ap (λ q. q % n) (sym e ∙ ap (λ q. q + 1) h ∙ one (x % n)) ∙ sym (suc-mod x n) ∙ ap (λ q. q % n) (sym (one x)) where
-  one : (a : ℕ) → a + 1 ≡ suc a
-  one a = omega arith
 
 -- `unhex`: what one byte gives
 pub passed_over : (k : Kept) (b : ℕ) (text : List ℕ) → (b ≡ 10) ⊎ (b ≡ 13) → pushed (with_rest k k.rest) (text ∷ []) Fine ≡ with_text text (unhex_byte k b)

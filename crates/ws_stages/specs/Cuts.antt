@@ -3,7 +3,7 @@ use Rattle.std.specs.Prelude.{◌≡◌, ◌≢◌, List, [], ◌∷◌, ℕ, �
 use Rattle.std.specs.List.{concat}
 use Rattle.ws_flow.specs.declared.plan.Ending.TheVariants.{Fine}
 use Rattle.ws_flow.specs.declared.plan.Stage.{Stage}
-use Rattle.ws_flow.specs.declared.plan.Stage.TheVariants.{Hex, Unhex, Mask, Frame}
+use Rattle.ws_flow.specs.declared.plan.Stage.TheVariants.{Unhex}
 use Rattle.ws_flow.specs.Machines.{Kept, Pushed}
 use Rattle.ws_stages.specs.declared.cut.Cut.{Cut}
 
@@ -14,6 +14,10 @@ kept_of cut = record { rest = cut.rest.items; bytes = cut.bytes; chunks = cut.co
 -- that, with the chunks so far and how it ended
 abbrev pub seen : Cut → Pushed
 seen cut = record { kept = kept_of cut; chunks = cut.chunks.items; ending = cut.ending }
+
+-- the same once so many bytes more came, and this chunk of them
+abbrev pub handing : Cut → ℕ → List ℕ → Pushed
+handing cut n chunk = record { kept = record (kept_of cut) { bytes = cut.bytes + n }; chunks = cut.chunks.items ++ chunk ∷ []; ending = cut.ending }
 
 -- these bytes are left over too
 abbrev pub with_bytes : Kept → List ℕ → Kept
@@ -41,17 +45,10 @@ IsHalf [] = Unit {0}
 IsHalf (d ∷ []) = d < 16
 IsHalf (d ∷ e ∷ r) = ⊥
 
--- what a stage has left over: `unhex` no digit or one, and `hex` and `mask` nothing
+-- what a stage has left over: `unhex` no digit or one
 abbrev pub RestFits : Stage → List ℕ → Type 0
 RestFits Unhex rest = IsHalf rest
-RestFits Hex rest = rest ≡ []
-RestFits (Mask key) rest = rest ≡ []
 RestFits _ rest = Unit {0}
-
--- a chunk of `frame` has a length that four bytes can tell
-abbrev pub HasLength : Stage → ℕ → Type 0
-HasLength Frame n = n < 2 ^ 32
-HasLength _ n = Unit {0}
 
 -- before a chunk of n bytes
 pub record CanTake (cut : Cut) (n : ℕ) : Type 0 where

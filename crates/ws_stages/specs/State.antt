@@ -3,8 +3,7 @@ use Rattle.std.specs.Prelude.{ℕ, Bool, true, false}
 use Rattle.ws_flow.specs.declared.plan.Ending.{Ending}
 use Rattle.ws_flow.specs.declared.plan.Ending.TheVariants.{Fine, Bad}
 use Rattle.ws_flow.specs.declared.plan.Stage.{Stage}
-use Rattle.ws_flow.specs.Machines.{Kept}
-use Rattle.ws_flow.specs.Stages.{nothing_kept}
+use Rattle.ws_flow.specs.Machines.{Kept, nothing_kept}
 use Rattle.ws_flow.specs.Parts.{AtWork, Live, Over}
 
 pub record State : Type 0 where

@@ -2,8 +2,9 @@
 //! byte by byte.
 ghost use Rattle.std.specs.Prelude.{◌≡◌, ◌∷◌, ◌++◌, [], ◌+◌, ◌<◌, ◌≤◌, ◌^◌, OnOk, length, drop};
 ghost use Rattle.ws_flow.specs.declared.plan.Ending.TheVariants.{Fine};
-ghost use Rattle.ws_flow.specs.Stages.{each_byte, line_byte};
-ghost use Rattle.ws_stages.specs.Cuts.{HasNoFeed, kept_of, seen, with_bytes, with_chunks};
+ghost use Rattle.ws_flow.specs.Machines.{each_byte};
+ghost use Rattle.ws_flow.specs.Stages.{line_byte};
+ghost use Rattle.ws_stages.specs.Cuts.{HasNoFeed, handing, kept_of, seen, with_bytes, with_chunks};
 
 use memchr::memchr;
 use std::alloc::Global;
@@ -52,6 +53,19 @@ impl Cut {
         let bytes = mem::replace(&mut self.rest, room);
         let mut chunk = Chunk::from_vec(bytes);
         chunk.advance(n);
+        self.chunks.push(chunk)?;
+        Ok(())
+    }
+
+    /// A chunk comes out, of so many bytes.
+    pub fn hand_on(&mut self, bytes: usize, chunk: Chunk) -> Result<(), NoMemory>
+        requires room { self.old.bytes + bytes < 2 ^ 128 }
+        ensures seen { OnOk result (seen self.new ≡ handing self.old bytes chunk) }
+        ensures rest { self.new.rest.items ≡ self.old.rest.items }
+        ensures bytes { self.new.bytes ≡ self.old.bytes + bytes }
+        ensures count { self.new.count ≡ self.old.count }
+    {
+        self.bytes += bytes as u128;
         self.chunks.push(chunk)?;
         Ok(())
     }

@@ -2,6 +2,7 @@
 #![tactic(auto)]
 
 mod cut;
+mod kinds;
 mod refusals;
 mod text;
 mod work;

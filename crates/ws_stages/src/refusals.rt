@@ -1,9 +1,11 @@
 //! Which plans are refused.
 ghost use Rattle.std.specs.Prelude.{◌≡◌, false, pos};
 ghost use Rattle.std.specs.List.{list_all};
-ghost use Rattle.ws_flow.specs.Plans.{are_in_order, are_numbers_within, each_has_stage, has_stage, is_abort_within, is_in_range, is_placed_within, is_within, refusal, sees_known_chunks};
+ghost use Rattle.ws_flow.specs.Plans.{are_in_order, are_numbers_within, each_has_stage, has_stage, is_abort_within, is_placed_within, refusal, sees_known_chunks};
+ghost use Rattle.ws_flow.specs.Stages.{is_in_range, is_within};
 ghost use Rattle.ws_stages.specs.Checks.{answer_of, stages_in};
 
+use crate::kinds::{is_in_range, is_known, may_see};
 use ws_flow::{Placed, Plan, Refusal, Stage};
 
 /// The most stages, workers and stages `hex` of a plan.
@@ -15,26 +17,6 @@ const MOST_HEX: usize = 4;
 
 /// The most bytes of input, and the most bytes of output before an abort: 2^40.
 const MOST_BYTES: i64 = 1_099_511_627_776;
-
-/// The most bytes of a line or a frame, of a block, and of a key.
-const MOST_OF_A_CHUNK: i64 = 1_048_576;
-
-const MOST_OF_A_BLOCK: i64 = 65_536;
-
-const MOST_OF_A_KEY: usize = 64;
-
-/// Whether a stage's number, or the length of its key, is in its range.
-fn is_in_range(stage: &Stage) -> bool
-    ensures { result ≡ is_in_range stage.now }
-{
-    match stage {
-        Stage::Lines { max } => 1 <= *max && *max <= MOST_OF_A_CHUNK,
-        Stage::Fixed { n } => 1 <= *n && *n <= MOST_OF_A_BLOCK,
-        Stage::Mask { key } => 1 <= key.len() && key.len() <= MOST_OF_A_KEY,
-        Stage::Unframe { max } => 0 <= *max && *max <= MOST_OF_A_CHUNK,
-        Stage::Hex | Stage::Unhex | Stage::Number | Stage::Frame => true,
-    }
-}
 
 /// Whether a stage's numbers are in their range and its worker is one of so many, or the caller where there are none.
 fn is_placed_within(workers: i64, placed: &Placed) -> bool
@@ -85,16 +67,10 @@ fn sees_known_chunks(stages: &[Placed]) -> bool
 {
     let mut known = false;
     for placed in stages {
-        match placed.stage {
-            Stage::Lines { .. } | Stage::Fixed { .. } | Stage::Unframe { .. } => known = true,
-            Stage::Unhex => known = false,
-            Stage::Number | Stage::Frame => {
-                if !known {
-                    return false;
-                }
-            }
-            Stage::Hex | Stage::Mask { .. } => {}
+        if !may_see(known, &placed.stage) {
+            return false;
         }
+        known = is_known(known, &placed.stage);
     }
     true
 }

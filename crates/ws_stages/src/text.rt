@@ -1,11 +1,11 @@
 //! What stages make of bytes: each one masked, their hexadecimal text, the bytes of such a text, and chunks with a
 //! number or a length before them.
 ghost use Rattle.std.specs.Prelude.{◌≡◌, ◌∷◌, ◌++◌, ◌+◌, ◌<◌, ◌≤◌, ◌^◌, IfOk, OnOk, [], decimal, length};
-ghost use Rattle.hex.specs.Hex.{encode_lower, hex_digit_value};
+ghost use Rattle.hex.specs.Hex.{hex_digit_value};
 ghost use Rattle.ws_flow.specs.declared.plan.Ending.TheVariants.{Fine};
-ghost use Rattle.ws_flow.specs.Stages.{each_byte, framed, unhex_byte};
-ghost use Rattle.ws_flow.specs.Outputs.{masked};
-ghost use Rattle.ws_stages.specs.Cuts.{IsHalf, kept_of, seen_text, with_text};
+ghost use Rattle.ws_flow.specs.Machines.{One, byte_push, each_byte};
+ghost use Rattle.ws_flow.specs.Stages.{framed, hex_byte, mask_byte, unhex_byte};
+ghost use Rattle.ws_stages.specs.Cuts.{CanTake, IsHalf, handing, kept_of, seen_text, with_text};
 
 use crate::cut::Cut;
 use itoa::Buffer;
@@ -17,12 +17,14 @@ use ws_value::{Chunk, NoMemory};
 const LONGEST_NUMBER: usize = 20;
 
 /// The bytes, each xor the key's byte at its place, the key repeated.
-pub fn masked(alloc: Global, key: &[u8], place: u128, bytes: &[u8]) -> Result<Chunk, NoMemory>
-    requires { 0 < length key.now }
-    ensures { IfOk result (λ chunk. chunk ≡ masked key.now place bytes.now) }
+pub fn masked(cut: &Cut, key: &[u8], bytes: &[u8]) -> Result<Chunk, NoMemory>
+    requires key { 0 < length key.now }
+    requires room { CanTake cut.now (length bytes.now) }
+    ensures { IfOk result (λ chunk. handing cut.now (length bytes.now) chunk
+        ≡ byte_push One (mask_byte key.now) (kept_of cut.now) bytes.now) }
 {
-    let mut text = Vec::with_capacity(alloc, bytes.len())?;
-    let mut at = (place % key.len() as u128) as usize;
+    let mut text = Vec::with_capacity(cut.alloc, bytes.len())?;
+    let mut at = (cut.bytes % key.len() as u128) as usize;
     for byte in bytes {
         text.push_reserved(*byte ^ key[at]);
         at += 1;
@@ -34,10 +36,12 @@ pub fn masked(alloc: Global, key: &[u8], place: u128, bytes: &[u8]) -> Result<Ch
 }
 
 /// The text of these bytes, in lower case.
-pub fn in_hex(alloc: Global, bytes: &[u8]) -> Result<Chunk, NoMemory>
-    ensures { IfOk result (λ chunk. chunk ≡ encode_lower bytes.now) }
+pub fn in_hex(cut: &Cut, bytes: &[u8]) -> Result<Chunk, NoMemory>
+    requires room { CanTake cut.now (length bytes.now) }
+    ensures { IfOk result (λ chunk. handing cut.now (length bytes.now) chunk
+        ≡ byte_push One hex_byte (kept_of cut.now) bytes.now) }
 {
-    let text = hex::encode(alloc, bytes)?;
+    let text = hex::encode(cut.alloc, bytes)?;
     Ok(Chunk::from_vec(text.into_bytes()))
 }
 

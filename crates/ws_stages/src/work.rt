@@ -1,20 +1,18 @@
 //! A stage at work.
 ghost use Rattle.std.specs.Prelude.{◌≡◌, ◌+◌, ◌<◌, ◌≤◌, ◌^◌, [], true, false, IfOk, OnErr, OnOk, length};
 ghost use Rattle.ws_flow.specs.declared.plan.Ending.TheVariants.{Fine};
-ghost use Rattle.ws_flow.specs.Stages.{machine};
-ghost use Rattle.ws_flow.specs.Plans.{is_in_range};
-ghost use Rattle.ws_stages.specs.Cuts.{CanTake, HasLength, RestFits, kept_of, seen};
+ghost use Rattle.ws_flow.specs.Stages.{HasLength, is_in_range, machine};
 ghost use Rattle.ws_stages.specs.Answers.{Answers, Flushed};
 ghost use Rattle.ws_flow.specs.Parts.{Over};
 ghost use Rattle.ws_stages.specs.State.{IsLive, begun, is_live, kept_in};
 
-use crate::cut::{Blocks, Cut, Frames, Lines, cut_bytes, cut_lines};
-use crate::text::{framed, from_hex, in_hex, masked, numbered};
+use crate::cut::Cut;
+use crate::kinds::{copy_of, finish, take};
 use std::alloc::Global;
 use std::marker::Model;
 use std::mem;
 use ws_flow::{Ending, Stage};
-use ws_value::{Blob, Chunk, NoMemory};
+use ws_value::{Chunk, NoMemory};
 
 /// What a stage answers: the chunks that come out, and how it ended with them.
 #[derive(Drop)]
@@ -43,99 +41,6 @@ impl Model for Work {
     ghost view = { shown };
 
     ghost invariant = { IsSound };
-}
-
-/// An equal stage.
-fn copy_of(alloc: Global, stage: &Stage) -> Result<Stage, NoMemory>
-    ensures { IfOk result (λ copy. copy ≡ stage.now) }
-{
-    match stage {
-        Stage::Lines { max } => Ok(Stage::Lines { max: *max }),
-        Stage::Fixed { n } => Ok(Stage::Fixed { n: *n }),
-        Stage::Hex => Ok(Stage::Hex),
-        Stage::Unhex => Ok(Stage::Unhex),
-        Stage::Mask { key } => Ok(Stage::Mask {
-            key: Blob::of(alloc, key.as_slice())?,
-        }),
-        Stage::Number => Ok(Stage::Number),
-        Stage::Frame => Ok(Stage::Frame),
-        Stage::Unframe { max } => Ok(Stage::Unframe { max: *max }),
-    }
-}
-
-/// The stage takes this chunk.
-fn take(stage: &Stage, cut: &mut Cut, chunk: &[u8]) -> Result<(), NoMemory>
-    requires range { is_in_range stage.now ≡ true }
-    requires room { CanTake cut.old (length chunk.now) }
-    requires rest { RestFits stage.now cut.old.rest.items }
-    requires length { HasLength stage.now (length chunk.now) }
-    ensures seen { OnOk result (seen cut.new ≡ (machine stage.now).push (kept_of cut.old) chunk.now) }
-    ensures rest { OnOk result (RestFits stage.now cut.new.rest.items) }
-    ensures bytes { OnOk result (cut.new.bytes ≤ cut.old.bytes + length chunk.now) }
-    ensures count { OnOk result (cut.new.count ≤ cut.old.count + 1) }
-{
-    match stage {
-        Stage::Lines { max } => cut_lines(&Lines(max.unsigned_abs() as usize), cut, chunk),
-        Stage::Fixed { n } => cut_bytes(&Blocks(n.unsigned_abs() as usize), cut, chunk),
-        Stage::Unframe { max } => cut_bytes(&Frames(max.unsigned_abs() as usize), cut, chunk),
-        Stage::Unhex => {
-            let text = from_hex(cut, chunk)?;
-            if !text.is_empty() {
-                cut.chunks.push(Chunk::from_vec(text))?;
-            }
-            Ok(())
-        }
-        Stage::Hex => {
-            cut.bytes += chunk.len() as u128;
-            cut.chunks.push(in_hex(cut.alloc, chunk)?)?;
-            Ok(())
-        }
-        Stage::Mask { key } => {
-            let place = cut.bytes;
-            cut.bytes += chunk.len() as u128;
-            cut.chunks
-                .push(masked(cut.alloc, key.as_slice(), place, chunk)?)?;
-            Ok(())
-        }
-        Stage::Number => {
-            cut.count += 1;
-            cut.chunks.push(numbered(cut.alloc, cut.count, chunk)?)?;
-            Ok(())
-        }
-        Stage::Frame => {
-            cut.count += 1;
-            cut.chunks.push(framed(cut.alloc, chunk)?)?;
-            Ok(())
-        }
-    }
-}
-
-/// The stage's input has ended.
-fn finish(stage: &Stage, cut: &mut Cut) -> Result<(), NoMemory>
-    requires fine { cut.old.ending ≡ Fine }
-    requires chunks { cut.old.chunks.items ≡ [] }
-    ensures { OnOk result (seen cut.new ≡ (machine stage.now).flush (kept_of cut.old)) }
-{
-    if cut.rest.is_empty() {
-        return Ok(());
-    }
-    match stage {
-        Stage::Lines { .. } | Stage::Fixed { .. } => cut.close_from(0)?,
-        Stage::Unhex => {
-            cut.ending = Ending::Bad {
-                code: 3,
-                place: cut.bytes,
-            }
-        }
-        Stage::Unframe { .. } => {
-            cut.ending = Ending::Bad {
-                code: 5,
-                place: cut.bytes,
-            }
-        }
-        Stage::Hex | Stage::Mask { .. } | Stage::Number | Stage::Frame => {}
-    }
-    Ok(())
 }
 
 impl Work {

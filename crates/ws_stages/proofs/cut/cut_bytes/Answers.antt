@@ -1,6 +1,6 @@
 use Rattle.std.proofs.Common.{◌+◌, ◌<◌, length, take, drop, get_or, sym, ap, ◌∙◌, arith}
 use Rattle.std.proofs.lemmas.List.{take_more}
-use Rattle.ws_flow.specs.Stages.{each_byte}
+use Rattle.ws_flow.specs.Machines.{each_byte}
 use Rattle.ws_stages.specs.Cuts.{kept_of, seen, with_chunks}
 use Rattle.ws_stages.proofs.Bytes.{goes_on, stops, front_byte_rest}
 use Rattle.ws_stages.proofs.cut.cut_bytes.Goals as goal

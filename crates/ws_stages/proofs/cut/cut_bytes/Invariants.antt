@@ -1,6 +1,6 @@
 use Rattle.std.proofs.Common.{◌≡◌, ◌+◌, ◌≤◌, take}
 use Rattle.ws_flow.specs.declared.plan.Ending.TheVariants.{Fine}
-use Rattle.ws_flow.specs.Stages.{each_byte}
+use Rattle.ws_flow.specs.Machines.{each_byte}
 use Rattle.ws_stages.specs.Cuts.{kept_of, seen, with_chunks}
 use Rattle.ws_stages.proofs.cut.cut_bytes.Given as goal
 

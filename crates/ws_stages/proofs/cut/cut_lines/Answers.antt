@@ -1,5 +1,6 @@
 use Rattle.std.proofs.Common.{sym, ap, ◌∙◌, arith}
-use Rattle.ws_flow.specs.Stages.{each_byte, line_byte}
+use Rattle.ws_flow.specs.Machines.{each_byte}
+use Rattle.ws_flow.specs.Stages.{line_byte}
 use Rattle.ws_stages.specs.Cuts.{kept_of, seen, with_chunks}
 use Rattle.ws_stages.proofs.Feeds.{after_keep, after_byte, at_bad, at_end}
 use Rattle.ws_stages.proofs.cut.cut_lines.Goals as goal

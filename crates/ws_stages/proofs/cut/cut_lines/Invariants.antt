@@ -1,6 +1,7 @@
 use Rattle.std.proofs.Common.{◌≡◌, ◌+◌, ◌≤◌, length}
 use Rattle.ws_flow.specs.declared.plan.Ending.TheVariants.{Fine}
-use Rattle.ws_flow.specs.Stages.{each_byte, line_byte}
+use Rattle.ws_flow.specs.Machines.{each_byte}
+use Rattle.ws_flow.specs.Stages.{line_byte}
 use Rattle.ws_stages.specs.Cuts.{kept_of, with_chunks}
 use Rattle.ws_stages.proofs.cut.cut_lines.Given as goal
 

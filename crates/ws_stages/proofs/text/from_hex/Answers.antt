@@ -1,6 +1,7 @@
 use Rattle.std.proofs.Common.{[], ◌+◌, ◌<◌, length, take, drop, get_or, sym, ap, ◌∙◌, arith}
 use Rattle.std.proofs.lemmas.List.{take_more}
-use Rattle.ws_flow.specs.Stages.{each_byte, unhex_byte}
+use Rattle.ws_flow.specs.Machines.{each_byte}
+use Rattle.ws_flow.specs.Stages.{unhex_byte}
 use Rattle.ws_stages.specs.Cuts.{kept_of, seen, seen_text, with_text}
 use Rattle.ws_stages.proofs.Bytes.{front_byte_rest}
 use Rattle.ws_stages.proofs.Texts.{text_goes_on, text_stops}

@@ -1,6 +1,7 @@
 use Rattle.std.proofs.Common.{◌≡◌, ◌+◌, ◌≤◌, [], take}
 use Rattle.ws_flow.specs.declared.plan.Ending.TheVariants.{Fine}
-use Rattle.ws_flow.specs.Stages.{each_byte, unhex_byte}
+use Rattle.ws_flow.specs.Machines.{each_byte}
+use Rattle.ws_flow.specs.Stages.{unhex_byte}
 use Rattle.ws_stages.specs.Cuts.{IsHalf, kept_of, seen_text, with_text}
 use Rattle.ws_stages.proofs.text.from_hex.Given as goal
 
