@@ -9,9 +9,9 @@ use Rattle.ws_flow.specs.declared.plan.Ending.{Ending}
 use Rattle.ws_flow.specs.declared.plan.Ending.TheVariants.{Fine, Bad}
 use Rattle.ws_flow.specs.declared.plan.Plan.{Plan}
 use Rattle.ws_flow.specs.Machines.{ending}
-use Rattle.ws_flow.specs.Plans.{bytes_of, as_one, reach, stages_of}
+use Rattle.ws_flow.specs.Plans.{as_one, reach, stages_of}
 use Rattle.ws_flow.specs.Stages.{machines}
-use Rattle.ws_flow.specs.Told.{Mark, Open, Closed, Told, told, IsBefore}
+use Rattle.ws_flow.specs.Told.{bytes_of, Mark, Open, Closed, Told, told, IsBefore}
 use Rattle.ws_flow.proofs.Cutting.{some_joined}
 use Rattle.ws_runner.specs.Copies.{AllowsCopy, Copies}
 use Rattle.ws_runner.specs.Ends.{Allows, Ends, IsAborted, ending_of, out_of}

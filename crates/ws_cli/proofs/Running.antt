@@ -10,10 +10,10 @@ use Rattle.ws_io.specs.declared.status.Status.TheVariants.{Done, Stage, ReadFaul
 use Rattle.ws_flow.specs.declared.plan.Ending.TheVariants.{Bad}
 use Rattle.ws_flow.specs.declared.plan.Plan.{Plan}
 use Rattle.ws_flow.specs.declared.plan.Stage.{Stage as StageOf}
-use Rattle.ws_flow.specs.Machines.{all_through, ending}
-use Rattle.ws_flow.specs.Plans.{bytes_of, as_one, reach, refusal, sees_known_chunks, stages_of}
-use Rattle.ws_flow.specs.Stages.{machines, some_chunk}
-use Rattle.ws_flow.specs.Told.{Mark, Open, Closed, Lost, Told, told, IsBefore, IsFront}
+use Rattle.ws_flow.specs.Machines.{all_through, ending, some_chunk}
+use Rattle.ws_flow.specs.Plans.{as_one, reach, refusal, sees_known_chunks, stages_of}
+use Rattle.ws_flow.specs.Stages.{machines}
+use Rattle.ws_flow.specs.Told.{bytes_of, Mark, Open, Closed, Lost, Told, told, IsBefore, IsFront}
 use Rattle.ws_flow.proofs.Cutting.{joined_append, some_joined, same_cut}
 use Rattle.ws_flow.proofs.Endings.{ending_stays}
 use Rattle.ws_flow.proofs.Headline.{bytes_before}

@@ -9,9 +9,9 @@ use Rattle.ws_value.specs.declared.value.Message.{Message}
 use Rattle.ws_flow.specs.declared.plan.Stage.{Stage}
 use Rattle.ws_flow.specs.Chains.{Way, Host, Row, Came, Went, Member, Keeps, Onward, all_stages}
 use Rattle.ws_flow.specs.Machines.{all_through}
-use Rattle.ws_flow.specs.Plans.{is_in_range, is_hex}
+use Rattle.ws_flow.specs.Plans.{is_hex}
 use Rattle.ws_flow.specs.Rows.{told_by}
-use Rattle.ws_flow.specs.Stages.{machines}
+use Rattle.ws_flow.specs.Stages.{is_in_range, machines}
 use Rattle.ws_flow.specs.Told.{Told, then_told, IsFront, IsBefore}
 use Rattle.ws_flow.proofs.Chain.{flows_before}
 use Rattle.ws_flow.proofs.Ends.{edge_before}

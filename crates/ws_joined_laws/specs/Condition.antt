@@ -9,7 +9,8 @@ use Rattle.ws_value.specs.declared.value.Value.{Value}
 use Rattle.ws_value.specs.declared.value.Value.TheVariants.{Plain, Bytes}
 use Rattle.ws_flow.specs.declared.plan.Stage.{Stage}
 use Rattle.ws_flow.specs.Chains.{Way, Host, Row, Member, Keeps, Chained, all_stages}
-use Rattle.ws_flow.specs.Plans.{is_in_range, is_hex}
+use Rattle.ws_flow.specs.Plans.{is_hex}
+use Rattle.ws_flow.specs.Stages.{is_in_range}
 use Rattle.ws_flow.specs.Rows.{told_by}
 use Rattle.ws_flow.specs.Told.{Told}
 

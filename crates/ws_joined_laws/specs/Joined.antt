@@ -11,9 +11,9 @@ use Rattle.ws_flow.specs.declared.plan.Ending.TheVariants.{Fine, Bad}
 use Rattle.ws_flow.specs.Chains.{Member, Chained, all_stages}
 use Rattle.ws_flow.specs.Machines.{ending, all_through}
 use Rattle.ws_flow.specs.Parts.{Flows}
-use Rattle.ws_flow.specs.Plans.{bytes_of, as_one, reach, sees_known_chunks}
+use Rattle.ws_flow.specs.Plans.{as_one, reach, sees_known_chunks}
 use Rattle.ws_flow.specs.Stages.{machines}
-use Rattle.ws_flow.specs.Told.{Closed, Told, then_told, IsBefore}
+use Rattle.ws_flow.specs.Told.{bytes_of, Closed, Told, then_told, IsBefore}
 use Rattle.ws_joined_laws.specs.Reasons.{Finds, HaveCauses}
 
 -- a node of a run, with the lists of its ends, and what it finds

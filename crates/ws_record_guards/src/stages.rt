@@ -2,11 +2,10 @@
 ghost use Rattle.std.specs.Prelude.{◌≡◌, ◌+◌, ◌<◌, ◌^◌, true, IfOk, OnErr, OnOk, length};
 ghost use Rattle.ws_flow.specs.declared.plan.Ending.TheVariants.{Fine};
 ghost use Rattle.ws_flow.specs.Parts.{Over};
-ghost use Rattle.ws_flow.specs.Plans.{is_in_range, refusal};
-ghost use Rattle.ws_flow.specs.Stages.{machine};
+ghost use Rattle.ws_flow.specs.Plans.{refusal};
+ghost use Rattle.ws_flow.specs.Stages.{is_in_range, machine, HasLength};
 ghost use Rattle.ws_stages.specs.Answers.{Answers};
 ghost use Rattle.ws_stages.specs.Checks.{answer_of};
-ghost use Rattle.ws_stages.specs.Cuts.{HasLength};
 ghost use Rattle.ws_stages.specs.State.{IsLive, begun, is_live, kept_in};
 
 use std::alloc::Global;

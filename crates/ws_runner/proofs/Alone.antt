@@ -6,9 +6,9 @@ use Rattle.ws_flow.specs.declared.plan.Stage.{Stage}
 use Rattle.ws_flow.specs.Chains.{Host, Member, Chained}
 use Rattle.ws_flow.specs.Machines.{ending}
 use Rattle.ws_flow.specs.Parts.{Part, Flows, found}
-use Rattle.ws_flow.specs.Plans.{bytes_of, as_one, reach, sees_known_chunks}
+use Rattle.ws_flow.specs.Plans.{as_one, reach, sees_known_chunks}
 use Rattle.ws_flow.specs.Stages.{machines}
-use Rattle.ws_flow.specs.Told.{Closed, Told, then_told, IsBefore}
+use Rattle.ws_flow.specs.Told.{bytes_of, Closed, Told, then_told, IsBefore}
 use Rattle.ws_flow.proofs.Members.{chain_got, chain_stage, chain_done}
 
 module _ (ss : List Stage) (read went behind : Told (List ℕ)) (ps : List Part) (got : Told ℕ) (known : sees_known_chunks false ss ≡ true)

@@ -12,9 +12,8 @@ use Rattle.ws_value.specs.declared.value.Value.{Value}
 use Rattle.ws_value.specs.declared.value.Value.TheVariants.{Bytes}
 use Rattle.ws_flow.specs.declared.plan.Plan.{Plan}
 use Rattle.ws_flow.specs.Parts.{Goes}
-use Rattle.ws_flow.specs.Plans.{bytes_of}
 use Rattle.ws_flow.specs.Stages.{machines}
-use Rattle.ws_flow.specs.Told.{Open as MayCome, Closed, Lost, Told, told, then_told, IsShortOf}
+use Rattle.ws_flow.specs.Told.{bytes_of, Open as MayCome, Closed, Lost, Told, told, then_told, IsShortOf}
 use Rattle.ws_flow.proofs.Steps.{goes_rests}
 use Rattle.ws_flow.proofs.Told.{short_trans, before_front, before_of_short}
 use Rattle.ws_io.specs.Faults.{Rose}

@@ -5,11 +5,10 @@ use Rattle.ws_flow.specs.declared.plan.Ending.{Ending}
 use Rattle.ws_flow.specs.declared.plan.Ending.TheVariants.{Fine, Bad}
 use Rattle.ws_flow.specs.declared.plan.Stage.{Stage}
 use Rattle.ws_flow.specs.declared.plan.Stage.TheVariants.{Lines, Fixed, Hex, Unhex, Mask, Number, Frame, Unframe}
-use Rattle.ws_flow.specs.Machines.{Kept, Machine, Pushed, mark_of, more, through, or_else, verdict, ending}
-use Rattle.ws_flow.specs.Stages.{added, each_byte, line_byte, block_byte, mask_byte, hex_byte, digit_met, unhex_byte, with_rest, four_bytes, frame_has, frame_met, unframe_byte, machine, machines}
+use Rattle.ws_flow.specs.Machines.{Kept, Machine, Pushed, mark_of, more, through, or_else, verdict, ending, added, each_byte, with_rest}
+use Rattle.ws_flow.specs.Stages.{line_byte, block_byte, mask_byte, hex_byte, digit_met, unhex_byte, four_bytes, frame_has, frame_met, unframe_byte, machine, machines, is_of_end}
 use Rattle.ws_flow.specs.Told.{Mark, Open, Closed, Lost, Told, told, goes_on}
 use Rattle.ws_flow.proofs.Endings.{closed_all}
-use Rattle.ws_runner.specs.Ends.{is_of_end}
 use Rattle.hex.specs.Hex.{hex_digit_value}
 
 -- where more may come and where something was lost, a stage ends alike

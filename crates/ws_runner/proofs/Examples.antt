@@ -3,12 +3,12 @@ use Rattle.std.proofs.Common.{◌≡◌, ℕ, pos, zero, suc, false, [], ◌∷�
 use Rattle.ws_value.specs.declared.value.Value.TheVariants.{Bytes}
 use Rattle.ws_flow.specs.declared.plan.Ending.TheVariants.{Bad}
 use Rattle.ws_flow.specs.declared.plan.Stage.TheVariants.{Fixed, Frame, Hex, Unhex}
-use Rattle.ws_flow.specs.Machines.{ending}
+use Rattle.ws_flow.specs.Machines.{ending, nothing_kept}
 use Rattle.ws_flow.specs.Parts.{Live, Part}
-use Rattle.ws_flow.specs.Plans.{as_one, bytes_of, reach}
-use Rattle.ws_flow.specs.Stages.{machines, nothing_kept}
+use Rattle.ws_flow.specs.Plans.{as_one, reach}
+use Rattle.ws_flow.specs.Stages.{machines}
 use Rattle.ws_flow.specs.Steps.{behind_of, parts_at}
-use Rattle.ws_flow.specs.Told.{Open, Closed, Told, told, then_told}
+use Rattle.ws_flow.specs.Told.{bytes_of, Open, Closed, Told, told, then_told}
 use Rattle.ws_stages.specs.State.{State, begun}
 use Rattle.ws_steps.specs.Bytes as byte
 use Rattle.ws_steps.specs.declared.calls.Answer.TheVariants.{Ok}

@@ -3,8 +3,8 @@ use Rattle.std.proofs.Common.{◌≡◌, ◌≢◌, ◌+◌, ◌<◌, ◌^◌, �
 use Rattle.std.specs.List.{concat}
 use Rattle.ws_flow.specs.declared.plan.Ending.TheVariants.{Fine}
 use Rattle.ws_flow.specs.declared.plan.Plan.{Plan}
-use Rattle.ws_flow.specs.Plans.{bytes_of, reach, stages_of}
-use Rattle.ws_flow.specs.Told.{Mark, Open as MayCome, Closed, Lost, Told, told, IsFront, IsBefore}
+use Rattle.ws_flow.specs.Plans.{reach, stages_of}
+use Rattle.ws_flow.specs.Told.{bytes_of, Mark, Open as MayCome, Closed, Lost, Told, told, IsFront, IsBefore}
 use Rattle.ws_flow.proofs.Cutting.{some_joined}
 use Rattle.ws_flow.proofs.Told.{before_front}
 use Rattle.ws_io.specs.Faults.{Rose}

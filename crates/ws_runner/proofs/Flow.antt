@@ -6,10 +6,10 @@ use Rattle.ws_flow.specs.declared.plan.Ending.{Ending}
 use Rattle.ws_flow.specs.declared.plan.Plan.{Plan}
 use Rattle.ws_flow.specs.declared.plan.Stage.{Stage}
 use Rattle.ws_flow.specs.Parts.{Over, Part, Goes, Flows, fresh, found, said}
-use Rattle.ws_flow.specs.Plans.{bytes_of, reach, sees_known_chunks, stages_of}
-use Rattle.ws_flow.specs.Stages.{machines, some_chunk}
+use Rattle.ws_flow.specs.Plans.{reach, sees_known_chunks, stages_of}
+use Rattle.ws_flow.specs.Stages.{machines}
 use Rattle.ws_flow.specs.Steps.{parts_at}
-use Rattle.ws_flow.specs.Told.{Mark, Open as MayCome, Closed, Told, told, then_told, IsBefore}
+use Rattle.ws_flow.specs.Told.{bytes_of, Mark, Open as MayCome, Closed, Told, told, then_told, IsBefore}
 use Rattle.ws_flow.proofs.Lengths.{accepted}
 use Rattle.ws_io.specs.Moment.{Moment}
 use Rattle.ws_stages.specs.State.{State}
@@ -24,7 +24,7 @@ use Rattle.ws_runner.specs.Past.{EndedAs, IsNew}
 use Rattle.ws_runner.specs.Went.{OutputGoes, AbortGoes, StopsAt}
 use Rattle.ws_runner.proofs.Alone.{got-before, found-bad, closed-whole}
 use Rattle.ws_runner.proofs.AtEnd.{found_late, fine_before}
-use Rattle.ws_flow.specs.Machines.{all_through}
+use Rattle.ws_flow.specs.Machines.{some_chunk, all_through}
 use Rattle.ws_flow.proofs.Chain.{flows_before, flows_whole}
 use Rattle.ws_flow.proofs.Told.{before_then, before_trans, before_of_short}
 use Rattle.ws_runner.specs.Flow.{HasGone, IsWhole, KeepsFlow}

@@ -6,10 +6,10 @@ use Rattle.ws_flow.specs.declared.plan.Plan.{Plan}
 use Rattle.ws_flow.specs.declared.plan.Stage.{Stage}
 use Rattle.ws_flow.specs.Machines.{Machine}
 use Rattle.ws_flow.specs.Parts.{AtWork, fresh, Goes}
-use Rattle.ws_flow.specs.Plans.{bytes_of, stages_of}
+use Rattle.ws_flow.specs.Plans.{stages_of}
 use Rattle.ws_flow.specs.Stages.{machines}
 use Rattle.ws_flow.specs.Steps.{parts_at, behind_of}
-use Rattle.ws_flow.specs.Told.{Mark, Open as MayCome, Closed, Lost, Told, told, goes_on, then_told, IsShortOf}
+use Rattle.ws_flow.specs.Told.{bytes_of, Mark, Open as MayCome, Closed, Lost, Told, told, goes_on, then_told, IsShortOf}
 use Rattle.ws_flow.proofs.Chain.{goes_then}
 use Rattle.ws_flow.proofs.Cutting.{joined_append, bytes_then}
 use Rattle.ws_flow.proofs.Ends.{goes_behind}

@@ -12,6 +12,7 @@ use Rattle.ws_flow.specs.declared.plan.Plan.{Plan}
 use Rattle.ws_flow.specs.declared.plan.Stage.{Stage}
 use Rattle.ws_flow.specs.declared.plan.Stage.TheVariants.{Lines, Fixed, Hex, Unhex, Mask, Number, Frame, Unframe}
 use Rattle.ws_flow.specs.Laws.{AreShort}
+use Rattle.ws_flow.specs.Stages.{HasLength}
 use Rattle.ws_flow.specs.Plans.{stages_of}
 use Rattle.ws_flow.specs.Steps.{parts_at}
 use Rattle.ws_flow.specs.Told.{Open, Told, told, then_told, IsShortOf}
@@ -22,7 +23,6 @@ use Rattle.ws_io.specs.Feed.{Feed}
 use Rattle.ws_io.specs.Moment.{Moment}
 use Rattle.ws_io.proofs.Flow.{Gains-nothing}
 use Rattle.ws_laws.proofs.Tables.{eq_numbers, is_same-refl}
-use Rattle.ws_stages.specs.Cuts.{HasLength}
 use Rattle.ws_stages.specs.State.{State, IsLive, kept_in}
 use Rattle.ws_steps.specs.declared.calls.Event.{Event}
 use Rattle.ws_steps.specs.declared.calls.Event.TheVariants.{Host, Settled, Signal, Post}

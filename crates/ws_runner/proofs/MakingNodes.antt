@@ -7,7 +7,8 @@ use Rattle.ws_value.specs.declared.ids.SignalId.{SignalId}
 use Rattle.ws_flow.specs.declared.plan.Placed.{Placed}
 use Rattle.ws_flow.specs.declared.plan.Plan.{Plan}
 use Rattle.ws_flow.specs.declared.plan.Stage.{Stage}
-use Rattle.ws_flow.specs.Plans.{is_in_range, stages_of}
+use Rattle.ws_flow.specs.Plans.{stages_of}
+use Rattle.ws_flow.specs.Stages.{is_in_range}
 use Rattle.ws_flow.proofs.Lengths.{accepted}
 use Rattle.ws_stages.specs.State.{State}
 use Rattle.ws_steps.specs.declared.calls.Call.TheVariants.{MakeBytes, MakeWritable, MakeSignal}

@@ -9,10 +9,10 @@ use Rattle.ws_value.specs.declared.value.Value.{Value}
 use Rattle.ws_flow.specs.declared.plan.Plan.{Plan}
 use Rattle.ws_flow.specs.declared.plan.Stage.{Stage}
 use Rattle.ws_flow.specs.declared.plan.Stage.TheVariants.{Lines, Fixed, Hex, Unhex, Mask, Number, Frame, Unframe}
-use Rattle.ws_flow.specs.Machines.{Kept, Machine}
+use Rattle.ws_flow.specs.Machines.{Kept, Machine, nothing_kept}
 use Rattle.ws_flow.specs.Parts.{Live, Part, Flows, fresh, nothing_told}
-use Rattle.ws_flow.specs.Plans.{is_within, is_abort_within, is_placed_within, stages_of}
-use Rattle.ws_flow.specs.Stages.{machine, machines, nothing_kept}
+use Rattle.ws_flow.specs.Plans.{is_abort_within, is_placed_within, stages_of}
+use Rattle.ws_flow.specs.Stages.{is_within, machine, machines}
 use Rattle.ws_flow.specs.Steps.{parts_at}
 use Rattle.ws_flow.specs.Told.{Told, then_told}
 use Rattle.ws_flow.proofs.Lengths.{accepted}

@@ -9,9 +9,9 @@ use Rattle.ws_value.specs.declared.value.Value.{Value}
 use Rattle.ws_flow.specs.declared.plan.Plan.{Plan}
 use Rattle.ws_flow.specs.Parts.{AtWork, Goes}
 use Rattle.ws_flow.specs.Steps.{parts_at, behind_of}
-use Rattle.ws_flow.specs.Plans.{bytes_of, stages_of}
+use Rattle.ws_flow.specs.Plans.{stages_of}
 use Rattle.ws_flow.specs.Stages.{machines}
-use Rattle.ws_flow.specs.Told.{Mark, Open as MayCome, Told, told, then_told, IsShortOf}
+use Rattle.ws_flow.specs.Told.{bytes_of, Mark, Open as MayCome, Told, told, then_told, IsShortOf}
 use Rattle.ws_flow.proofs.Lengths.{accepted}
 use Rattle.ws_flow.proofs.Lying.{lying_short}
 use Rattle.ws_flow.proofs.Steps.{behind_at as behind_is, goes_out}

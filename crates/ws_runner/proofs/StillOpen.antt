@@ -1,7 +1,6 @@
 -- While an output may be written, what went out may go on.
 use Rattle.std.proofs.Common.{◌≡◌, ℕ, List, refl, subst, arith}
-use Rattle.ws_flow.specs.Plans.{bytes_of}
-use Rattle.ws_flow.specs.Told.{Mark, Open as MayCome, Told, told, then_told, IsShortOf}
+use Rattle.ws_flow.specs.Told.{bytes_of, Mark, Open as MayCome, Told, told, then_told, IsShortOf}
 use Rattle.ws_io.specs.Moment.{Moment}
 use Rattle.ws_runner.specs.declared.node.Output.{Output}
 use Rattle.ws_runner.specs.declared.node.Output.TheVariants as output

@@ -8,9 +8,9 @@ use Rattle.ws_flow.specs.declared.plan.Ending.{Ending}
 use Rattle.ws_flow.specs.declared.plan.Ending.TheVariants.{Fine, Bad}
 use Rattle.ws_flow.specs.declared.plan.Plan.{Plan}
 use Rattle.ws_flow.specs.Machines.{ending}
-use Rattle.ws_flow.specs.Plans.{bytes_of, as_one, reach, stages_of}
+use Rattle.ws_flow.specs.Plans.{as_one, reach, stages_of}
 use Rattle.ws_flow.specs.Stages.{machines}
-use Rattle.ws_flow.specs.Told.{Mark, Open, Closed, Told, told, IsBefore}
+use Rattle.ws_flow.specs.Told.{bytes_of, Mark, Open, Closed, Told, told, IsBefore}
 use Rattle.ws_io.specs.Faults.{Rose}
 use Rattle.ws_io.specs.Feed.{Fed, IsEnded, IsEmpty}
 use Rattle.ws_io.specs.Gain.{Gains, Becomes, KeepsTold}

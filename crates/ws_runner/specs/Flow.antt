@@ -5,9 +5,9 @@ use Rattle.ws_flow.specs.declared.plan.Ending.TheVariants.{Fine}
 use Rattle.ws_flow.specs.declared.plan.Plan.{Plan}
 use Rattle.ws_flow.specs.Machines.{all_through}
 use Rattle.ws_flow.specs.Parts.{Goes, residual}
-use Rattle.ws_flow.specs.Plans.{bytes_of, stages_of}
+use Rattle.ws_flow.specs.Plans.{stages_of}
 use Rattle.ws_flow.specs.Stages.{machines}
-use Rattle.ws_flow.specs.Told.{Mark, Closed, Lost, Told, told, then_told, IsBefore, IsShortOf}
+use Rattle.ws_flow.specs.Told.{bytes_of, Mark, Closed, Lost, Told, told, then_told, IsBefore, IsShortOf}
 use Rattle.ws_io.specs.Moment.{Moment}
 use Rattle.ws_runner.specs.declared.node.Node.{Node}
 use Rattle.ws_runner.specs.declared.node.Output.TheVariants as output

@@ -9,7 +9,7 @@ use Rattle.ws_value.specs.declared.ids.StreamId.{StreamId}
 use Rattle.ws_value.specs.declared.value.Value.TheVariants.{Plain as PlainValue, Bytes}
 use Rattle.ws_flow.specs.declared.plan.Ending.{Ending}
 use Rattle.ws_flow.specs.declared.plan.Ending.TheVariants.{Fine, Bad}
-use Rattle.ws_flow.specs.Stages.{machine}
+use Rattle.ws_flow.specs.Stages.{machine, HasLength}
 use Rattle.ws_io.specs.Faults.{Rose}
 use Rattle.ws_io.specs.Feed.{Feed}
 use Rattle.ws_io.specs.Gain.{Gains, Becomes, KeepsTold}
@@ -26,7 +26,6 @@ use Rattle.ws_steps.specs.Histories.{is_same}
 use Rattle.ws_steps.specs.Run.{after_call, reply_to, run, jobs_in_a_row}
 use Rattle.ws_stages.specs.declared.work.Pushed.{Pushed}
 use Rattle.ws_stages.specs.Answers.{Answers as StageAnswers, Flushed}
-use Rattle.ws_stages.specs.Cuts.{HasLength}
 use Rattle.ws_stages.specs.State.{State, IsLive, kept_in}
 use Rattle.ws_realm.specs.Seen.{SeenRealm, oldest}
 use Rattle.ws_value.specs.declared.memory.NoMemory.{NoMemory as NoMemoryError}

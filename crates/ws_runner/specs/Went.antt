@@ -2,9 +2,8 @@
 use Rattle.std.specs.Prelude.{◌≡◌, ◌≢◌, ◌+◌, ◌<◌, ◌≤◌, ◌^◌, ℕ, List, [], ◌∷◌, ◌++◌, All, length, Option, Some, None}
 use Rattle.std.specs.List.{concat}
 use Rattle.ws_flow.specs.Parts.{Goes}
-use Rattle.ws_flow.specs.Plans.{bytes_of}
 use Rattle.ws_flow.specs.Stages.{machines}
-use Rattle.ws_flow.specs.Told.{Mark, Open as MayCome, Closed, Lost, Told, told, then_told, IsShortOf}
+use Rattle.ws_flow.specs.Told.{bytes_of, Mark, Open as MayCome, Closed, Lost, Told, told, then_told, IsShortOf}
 use Rattle.ws_io.specs.Faults.{Rose}
 use Rattle.ws_io.specs.Feed.{Fed, IsEmpty, IsEnded, KeepsEnd}
 use Rattle.ws_io.specs.Gain.{Gains, Becomes, KeepsTold}

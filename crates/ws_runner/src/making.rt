@@ -1,7 +1,7 @@
 //! A node as it is made: the source, a transform stream for each stage, and the sink; then the pipes between them.
 ghost use Rattle.std.specs.Prelude.{◌≡◌, ◌+◌, ◌*◌, ◌<◌, ◌^◌, true, IfOk, OnOk, None, length, map, zero};
 ghost use Rattle.std.specs.List.{list_all};
-ghost use Rattle.ws_flow.specs.Plans.{is_in_range};
+ghost use Rattle.ws_flow.specs.Stages.{is_in_range};
 ghost use Rattle.ws_chain_laws.specs.Opening.{pipes_from, piping, transforms};
 ghost use Rattle.ws_runner.specs.Opening.{AreAnswered, Begins, CanPipe, IsAccepted, IsPromise, all_begun};
 ghost use Rattle.ws_runner.specs.Past.{IsFresh};

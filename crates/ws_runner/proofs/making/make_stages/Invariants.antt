@@ -1,7 +1,7 @@
 use Rattle.std.proofs.Common.{◌≡◌, ◌++◌, true, length, map, drop}
 use Rattle.std.specs.List.{list_all}
 use Rattle.ws_flow.specs.declared.plan.Placed.{Placed}
-use Rattle.ws_flow.specs.Plans.{is_in_range}
+use Rattle.ws_flow.specs.Stages.{is_in_range}
 use Rattle.ws_steps.specs.Run.{run}
 use Rattle.ws_chain_laws.specs.Opening.{transforms}
 use Rattle.ws_runner.specs.Opening.{all_begun}

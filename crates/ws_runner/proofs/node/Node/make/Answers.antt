@@ -1,7 +1,7 @@
 use Rattle.std.proofs.Common.{◌≡◌, true, List, length, map, refl, sym, ap, ◌∙◌, subst, nat_abs, arith, rules, to_z, of_z, w64}
 use Rattle.std.specs.List.{list_all}
 use Rattle.ws_flow.specs.declared.plan.Placed.{Placed}
-use Rattle.ws_flow.specs.Plans.{is_in_range}
+use Rattle.ws_flow.specs.Stages.{is_in_range}
 use Rattle.ws_chain_laws.specs.Chain.{dest_of}
 use Rattle.ws_realm.specs.Seen.{SeenRealm}
 use Rattle.ws_runner.specs.Opening.{all_begun, count_of}
