@@ -4,15 +4,11 @@ from __future__ import annotations
 
 from random import Random
 
-from plans import ARGUMENTS, CUTTERS, KINDS, SEES_CHUNKS, Plan
+from kinds import KINDS, Number, is_cut_by_stages
+from plans import Plan
+from texts import text_lines
 
-NUMBERS = {
-    "lines": (1, 2, 5, 20, 80, 80, 4096, 65_536, 1_048_576),
-    "fixed": (1, 2, 3, 7, 64, 4095, 4096, 4097, 65_536),
-    "unframe": (0, 1, 3, 16, 300, 65_536, 1_048_576),
-}
 LENGTHS = (0, 1, 2, 3, 7, 20, 20, 100, 100, 1_000, 4_095, 4_096, 4_097, 9_000, 65_537, 150_000)
-LETTERS = bytes(65 + byte % 26 for byte in range(256))
 # What a file may have instead of a value or beside it.
 ODD_VALUES = ("-1", "0", "9", "65537", "1048577", "1099511627777", "9223372036854775808", "1.0", "true",
               '"1"', "[]", "{}", "1979-05-27", '"5"', '"0g"', '"' + "00" * 65 + '"')
@@ -34,13 +30,14 @@ def random_kinds(random: Random) -> list[str]:
     kinds: list[str] = []
     is_cut = random.random() < 0.03
     for _ in range(random.choice((0, 1, 1, 2, 2, 3, 4, 6, 9, 16, 17 if random.random() < 0.2 else 5))):
-        may_be = [kind for kind in KINDS if is_cut or kind not in SEES_CHUNKS]
+        may_be = [kind for kind in KINDS if is_cut or not KINDS[kind].sees_chunks]
         if kinds.count("hex") >= 4 and random.random() < 0.9:
             may_be.remove("hex")
-        if kinds and kinds[-1] in ("hex", "frame") and random.random() < 0.4:
-            may_be = ["unhex"] if kinds[-1] == "hex" else ["unframe"]
+        undone_by = KINDS[kinds[-1]].undone_by if kinds else None
+        if undone_by and random.random() < 0.4:
+            may_be = [undone_by]
         kind = random.choice(may_be)
-        is_cut = kind in CUTTERS or is_cut and kind != "unhex"
+        is_cut = is_cut_by_stages(KINDS[kind], is_cut)
         kinds.append(kind)
     return kinds
 
@@ -48,11 +45,13 @@ def random_kinds(random: Random) -> list[str]:
 def stage_keys(random: Random, kind: str) -> dict[str, str]:
     """A stage, without its worker."""
     keys = {"kind": quoted(random, kind)}
-    if kind in NUMBERS and (kind == "fixed" or random.random() < 0.7):
-        keys[ARGUMENTS[kind][0]] = integer(random, random.choice(NUMBERS[kind]))
-    if kind == "mask":
-        key = random.randbytes(random.choice((1, 1, 2, 3, 64))).hex()
-        keys["key"] = quoted(random, random.choice((key, key.upper())))
+    wanted = KINDS[kind].argument
+    if isinstance(wanted, Number):
+        if wanted.default is None or random.random() < 0.7:
+            keys[wanted.key] = integer(random, random.choice(wanted.tried))
+    elif wanted:
+        digits = random.randbytes(random.choice(wanted.tried)).hex()
+        keys[wanted.key] = quoted(random, random.choice((digits, digits.upper())))
     return keys
 
 
@@ -115,38 +114,13 @@ def random_file(random: Random, most_input: int) -> bytes:
     return file_of(random, keys, stages)
 
 
-def text_lines(random: Random, length: int) -> bytes:
-    longest = random.choice((3, 20, 90, 5_000))
-    text = bytearray()
-    while len(text) < length:
-        text += random.randbytes(random.randrange(longest)).translate(LETTERS)
-        text += b"\n"
-    return bytes(text[:length])
-
-
-def hex_text(random: Random, length: int) -> bytes:
-    text = random.randbytes(length // 2 + 1).hex().encode()
-    if random.random() < 0.5:
-        text = text.upper().replace(b"00", b"0\n0").replace(b"A", b"a\r\n")
-    return text[:length]
-
-
-def frames(random: Random, length: int) -> bytes:
-    text = bytearray()
-    while len(text) < length:
-        chunk = random.randbytes(random.choice((0, 1, 2, 3, 15, 200, 5_000)))
-        text += len(chunk).to_bytes(4, "big") + chunk
-    return bytes(text) if random.random() < 0.7 else bytes(text[:length])
-
-
 def random_input(random: Random, plan: Plan | None, length: int) -> bytes:
     """An input of about this length, mostly of a form that the first stages are for."""
-    kinds = [stage.kind for stage in plan.stages] if plan else []
-    first = next((kind for kind in kinds if kind in ("lines", "unhex", "unframe")), "lines")
+    kinds = [KINDS[stage.kind] for stage in plan.stages] if plan else []
+    make = next((kind.inputs for kind in kinds if kind.inputs), text_lines)
     chance = random.random()
     if chance < 0.1:
         return random.randbytes(length)
-    make = {"lines": text_lines, "unhex": hex_text, "unframe": frames}[first]
     text = bytearray(make(random, length))
     if chance > 0.9 and text:
         text[random.randrange(len(text))] = random.randrange(256)

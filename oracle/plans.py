@@ -5,20 +5,11 @@ from __future__ import annotations
 import tomllib
 from dataclasses import dataclass
 
+from kinds import KINDS, is_cut_by_stages, is_integer
+
 MOST_BYTES = 1_048_576
 MOST_STAGES, MOST_WORKERS, MOST_HEX = 16, 8, 4
 MOST_OUTPUT = 2 ** 40
-
-# The number or text that a kind has beside it, with the number's range and what it is where it is missing.
-ARGUMENTS: dict[str, tuple[str, int, int, int | None]] = {
-    "lines": ("max", 1, 1_048_576, 65_536),
-    "fixed": ("n", 1, 65_536, None),
-    "unframe": ("max", 0, 1_048_576, 65_536),
-}
-KINDS = ("lines", "fixed", "hex", "unhex", "mask", "number", "frame", "unframe")
-CUTTERS = ("lines", "fixed", "unframe")
-SEES_CHUNKS = ("number", "frame")
-KEEPS_CHUNKS = ("hex", "mask", "number", "frame")
 
 
 class Refused(Exception):
@@ -46,10 +37,6 @@ class Plan:
     stages: tuple[Stage, ...]
 
 
-def is_integer(value: object) -> bool:
-    return isinstance(value, int) and not isinstance(value, bool)
-
-
 def each_integer_fits(value: object) -> bool:
     """Whether each integer in a value of TOML has 64 bits."""
     if isinstance(value, dict):
@@ -74,23 +61,11 @@ def table_of(text: bytes) -> dict:
 
 def argument_of(table: dict) -> int | bytes | None:
     """What a stage has beside its kind, or 10."""
-    kind = table["kind"]
-    known = {"kind", "worker"}
-    argument: int | bytes | None = None
-    if kind in ARGUMENTS:
-        name, _least, _most, default = ARGUMENTS[kind]
-        known.add(name)
-        argument = table.get(name, default)
-        if not is_integer(argument):
-            raise Refused(10)
-    if kind == "mask":
-        known.add("key")
-        key = table.get("key")
-        digits = "0123456789abcdefABCDEF"
-        if not isinstance(key, str) or len(key) % 2 or any(digit not in digits for digit in key):
-            raise Refused(10)
-        argument = bytes.fromhex(key)
-    if not set(table) <= known:
+    wanted = KINDS[table["kind"]].argument
+    argument = wanted.value_in(table) if wanted else None
+    if wanted and argument is None:
+        raise Refused(10)
+    if not set(table) <= {"kind", "worker", *([wanted.key] if wanted else [])}:
         raise Refused(10)
     return argument
 
@@ -135,11 +110,8 @@ def is_in_range(plan: Plan) -> bool:
     if plan.abort_after is not None and not 1 <= plan.abort_after <= MOST_OUTPUT:
         return False
     for stage in plan.stages:
-        if stage.kind in ARGUMENTS:
-            _name, least, most, _default = ARGUMENTS[stage.kind]
-            if not least <= stage.argument <= most:
-                return False
-        if stage.kind == "mask" and not 1 <= len(stage.argument) <= 64:
+        wanted = KINDS[stage.kind].argument
+        if wanted and not wanted.is_in_range(stage.argument):
             return False
         if not (1 <= stage.worker <= plan.workers if plan.workers else stage.worker == 0):
             return False
@@ -150,9 +122,10 @@ def sees_the_cutting(stages: tuple[Stage, ...]) -> bool:
     """Whether a stage would see how the input was cut."""
     is_cut = False
     for stage in stages:
-        if stage.kind in SEES_CHUNKS and not is_cut:
+        kind = KINDS[stage.kind]
+        if kind.sees_chunks and not is_cut:
             return True
-        is_cut = stage.kind in CUTTERS or is_cut and stage.kind in KEEPS_CHUNKS
+        is_cut = is_cut_by_stages(kind, is_cut)
     return False
 
 
