@@ -13,7 +13,8 @@ use Rattle.ws_flow.specs.declared.refusal.Refusal.TheVariants.{FileTooLong}
 use Rattle.ws_flow.specs.Plans.{refusal, refusal_of}
 use Rattle.ws_flow.specs.Refusals.{refusal_number}
 use Rattle.ws_plan.specs.Answers.{planned_as}
-use Rattle.ws_plan.specs.Reading.{Planned, accepted, most_of_a_file, planned, reading, table_in, unless_refused, ◌>>=◌}
+use Rattle.ws_plan.specs.Keys.{◌>>=◌}
+use Rattle.ws_plan.specs.Reading.{Planned, accepted, most_of_a_file, planned, reading, table_in, unless_refused}
 use Rattle.ws_cli.specs.Check.{Shelf, HasText, IsFirstRefusal, IsTooLong, LacksText, OfName}
 use Rattle.ws_cli.specs.Planned.{Loads}
 

@@ -6,7 +6,8 @@ use Rattle.toml.specs.Data.{Data, string, integer, float, boolean, datetime, arr
 use Rattle.ws_flow.specs.declared.plan.Placed.{Placed}
 use Rattle.ws_flow.specs.declared.refusal.Refusal.{Refusal}
 use Rattle.ws_flow.specs.declared.refusal.Refusal.TheVariants.{NotToml, WrongKey}
-use Rattle.ws_plan.specs.Reading.{Planned, as_integer, as_text, as_tables, are_tables, table_of, placed_of, placed_in, all_placed, unless_refused, ◌>>=◌}
+use Rattle.ws_plan.specs.Keys.{as_integer, as_text, as_tables, are_tables, ◌>>=◌}
+use Rattle.ws_plan.specs.Reading.{Planned, table_of, placed_of, placed_in, all_placed, unless_refused}
 use Rattle.ws_stages.specs.Checks.{answer_of}
 
 pub is_integer : (d : Data) (o : Option ℤ) → o ≡ integer_of d → is_some o ≡ true → as_integer (Some d) ≡ Ok o

@@ -1,3 +1,5 @@
 pub mod Answers
+pub mod Keys
 pub mod PlanText
 pub mod Reading
+pub mod Stages

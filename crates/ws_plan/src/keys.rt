@@ -5,7 +5,7 @@ ghost use Rattle.std.specs.Str.{bytes_eq};
 ghost use Rattle.toml.specs.Data.{get_member};
 ghost use Rattle.toml.specs.View.{items_view, table_view};
 ghost use Rattle.ws_plan.specs.Answers.{Reads};
-ghost use Rattle.ws_plan.specs.Reading.{are_tables, as_tables, as_text, has_only, integer_at, integer_or, only, some_integer, some_text};
+ghost use Rattle.ws_plan.specs.Keys.{are_tables, as_tables, as_text, has_only, integer_at, integer_or, only, some_integer, some_text};
 
 use crate::PlanRefused;
 use toml::{Table, Value};

@@ -6,6 +6,7 @@ mod read;
 mod refused;
 mod stages;
 mod text;
+mod words;
 
 pub use read::read_plan;
 pub use refused::PlanRefused;

@@ -1,16 +1,18 @@
-//! The stages of a pipeline file.
-ghost use Rattle.std.specs.Prelude.{◌≡◌};
+//! The stages of a pipeline file, by their kinds.
+ghost use Rattle.std.specs.Prelude.{◌≡◌, ◌++◌, OnOk};
 ghost use Rattle.toml.specs.View.{items_view, table_view, view};
 ghost use Rattle.ws_plan.specs.Answers.{Reads};
-ghost use Rattle.ws_plan.specs.Reading.{all_placed, fixed_of, mask_of, most_of, of_kind, placed_in, placed_of, plain_of};
+ghost use Rattle.ws_plan.specs.Reading.{all_placed, placed_in, placed_of};
+ghost use Rattle.ws_plan.specs.Stages.{fixed_of, mask_of, most_of, of_kind, plain_of, stage_text};
 
 use crate::PlanRefused;
 use crate::keys::{integer_or, only, some_integer, some_text};
+use crate::words::{append, append_bytes, append_signed};
 use hex::FromHexError;
 use std::alloc::Global;
 use toml::{Table, Value};
 use ws_flow::{Placed, Refusal, Stage};
-use ws_value::Blob;
+use ws_value::{Blob, NoMemory};
 
 /// The most bytes of a line or a frame where the file doesn't say.
 const USUAL_MOST: i64 = 65_536;
@@ -75,6 +77,22 @@ fn of_kind(alloc: Global, kind: &str, table: &Table) -> Result<Stage, PlanRefuse
         Ok(Stage::Unframe { max })
     } else {
         Err(PlanRefused::Cause(Refusal::UnknownKind))
+    }
+}
+
+/// Appends a stage's kind with its number or key, in lower-case hexadecimal.
+pub(crate) fn append_stage(alloc: Global, out: &mut Vec<u8>, stage: &Stage) -> Result<(), NoMemory>
+    ensures { OnOk result (out.new.items ≡ out.old.items ++ stage_text stage.now) }
+{
+    match stage {
+        Stage::Lines { max } => append_signed(out, b"lines ", *max),
+        Stage::Fixed { n } => append_signed(out, b"fixed ", *n),
+        Stage::Hex => append(out, b"hex"),
+        Stage::Unhex => append(out, b"unhex"),
+        Stage::Mask { key } => append_bytes(alloc, out, b"mask ", key.as_slice()),
+        Stage::Number => append(out, b"number"),
+        Stage::Frame => append(out, b"frame"),
+        Stage::Unframe { max } => append_signed(out, b"unframe ", *max),
     }
 }
 

@@ -1,54 +1,12 @@
+//! The text of a plan.
 ghost use Rattle.std.specs.Prelude.{◌≡◌, ◌++◌, IfOk, OnOk};
-ghost use Rattle.ws_plan.specs.PlanText.{abort_text, check_text, numbered, plan_line, stage_line, stage_lines, stage_text};
+ghost use Rattle.ws_plan.specs.PlanText.{abort_text, check_text, plan_line, stage_line, stage_lines};
 
-use itoa::{Buffer, Integer};
+use crate::stages::append_stage;
+use crate::words::{append, append_numbered, append_signed};
 use std::alloc::Global;
-use ws_flow::{Placed, Plan, Stage};
+use ws_flow::{Placed, Plan};
 use ws_value::{Blob, NoMemory};
-
-/// Appends words. After want of memory a part of them may stand there, here and below.
-fn append(out: &mut Vec<u8>, words: &[u8]) -> Result<(), NoMemory>
-    ensures { OnOk result (out.new.items ≡ out.old.items ++ words.now) }
-{
-    out.extend_from_slice(words)?;
-    Ok(())
-}
-
-/// Appends words and a number in decimal.
-fn append_numbered<I: Integer>(out: &mut Vec<u8>, words: &[u8], number: I) -> Result<(), NoMemory>
-    ensures { OnOk result (out.new.items ≡ out.old.items ++ (words.now ++ I.text number)) }
-{
-    append(out, words)?;
-    append(out, Buffer::new().format(number).as_bytes())
-}
-
-/// Appends words and a signed number in decimal.
-fn append_signed(out: &mut Vec<u8>, words: &[u8], number: i64) -> Result<(), NoMemory>
-    ensures { OnOk result (out.new.items ≡ out.old.items ++ numbered words.now number) }
-{
-    append_numbered(out, words, number)
-}
-
-/// Appends a stage's kind with its number or key, in lower-case hexadecimal.
-fn append_stage(alloc: Global, out: &mut Vec<u8>, stage: &Stage) -> Result<(), NoMemory>
-    ensures { OnOk result (out.new.items ≡ out.old.items ++ stage_text stage.now) }
-{
-    match stage {
-        Stage::Lines { max } => append_signed(out, b"lines ", *max),
-        Stage::Fixed { n } => append_signed(out, b"fixed ", *n),
-        Stage::Hex => append(out, b"hex"),
-        Stage::Unhex => append(out, b"unhex"),
-        Stage::Mask { key } => {
-            let digits = hex::encode(alloc, key.as_slice())?.into_bytes();
-            append(out, b"mask ")?;
-            append(out, digits.as_slice())?;
-            Ok(())
-        }
-        Stage::Number => append(out, b"number"),
-        Stage::Frame => append(out, b"frame"),
-        Stage::Unframe { max } => append_signed(out, b"unframe ", *max),
-    }
-}
 
 /// Appends the line of the stage of this number, from 1.
 fn append_line(

@@ -1,6 +1,6 @@
 use Rattle.std.proofs.Common.{◌≡◌, drop}
 use Rattle.toml.specs.View.{items_view}
-use Rattle.ws_plan.specs.Reading.{are_tables}
+use Rattle.ws_plan.specs.Keys.{are_tables}
 use Rattle.ws_plan.proofs.keys.are_tables.Given as goal
 
 abbrev pub invariant-loop-value : goal.invariant-loop-value

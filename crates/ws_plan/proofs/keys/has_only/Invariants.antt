@@ -1,6 +1,6 @@
 use Rattle.std.proofs.Common.{◌≡◌, List, ℕ, Bor, map}
 use Rattle.toml.specs.View.{members_view, table_view}
-use Rattle.ws_plan.specs.Reading.{has_only}
+use Rattle.ws_plan.specs.Keys.{has_only}
 use Rattle.ws_plan.proofs.keys.has_only.Given as goal
 
 abbrev pub invariant-loop-key : goal.invariant-loop-key

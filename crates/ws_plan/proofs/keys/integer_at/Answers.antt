@@ -1,7 +1,7 @@
 use Rattle.std.proofs.Common.{sym, ap, ◌∙◌}
 use Rattle.toml.proofs.Views.{table_get}
 use Rattle.toml.specs.View.{view}
-use Rattle.ws_plan.specs.Reading.{as_integer}
+use Rattle.ws_plan.specs.Keys.{as_integer}
 use Rattle.ws_plan.proofs.Found.{is_integer, no_integer}
 use Rattle.ws_plan.proofs.keys.integer_at.Goals as goal
 

@@ -1,10 +1,10 @@
-use Rattle.std.proofs.Common.{List, ℕ, Option, Result, Ok, sym, ap, ◌∙◌}
+use Rattle.std.proofs.Common.{List, ℕ, Option, Result, sym, ap, ◌∙◌}
 use Rattle.std.specs.Prelude.{ok_or}
 use Rattle.toml.proofs.Views.{table_get}
 use Rattle.toml.specs.View.{view}
 use Rattle.ws_flow.specs.declared.refusal.Refusal.{Refusal}
 use Rattle.ws_flow.specs.declared.refusal.Refusal.TheVariants.{WrongKey}
-use Rattle.ws_plan.specs.Reading.{as_text, ◌>>=◌}
+use Rattle.ws_plan.specs.Keys.{as_text, ◌>>=◌}
 use Rattle.ws_plan.proofs.Found.{is_text, no_text}
 use Rattle.ws_plan.proofs.keys.some_text.Goals as goal
 

@@ -2,7 +2,7 @@ use Rattle.std.proofs.Common.{List, Ok, sym, ap, ◌∙◌}
 use Rattle.toml.proofs.Views.{table_get}
 use Rattle.toml.specs.View.{view, items_view}
 use Rattle.toml.specs.declared.value.Value.{Value}
-use Rattle.ws_plan.specs.Reading.{as_tables, are_tables}
+use Rattle.ws_plan.specs.Keys.{as_tables, are_tables}
 use Rattle.ws_plan.proofs.Found.{is_array, other_array, no_array}
 use Rattle.ws_plan.proofs.keys.tables_at.Goals as goal
 

@@ -1,6 +1,7 @@
 use Rattle.std.proofs.Common.{◌≡◌, ◌++◌, drop, Ok}
 use Rattle.toml.specs.View.{items_view}
-use Rattle.ws_plan.specs.Reading.{all_placed, ◌>>=◌}
+use Rattle.ws_plan.specs.Keys.{◌>>=◌}
+use Rattle.ws_plan.specs.Reading.{all_placed}
 use Rattle.ws_plan.proofs.stages.all_placed.Given as goal
 
 abbrev pub invariant-loop-value : goal.invariant-loop-value

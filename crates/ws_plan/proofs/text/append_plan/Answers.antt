@@ -1,5 +1,6 @@
 use Rattle.std.proofs.Common.{◌≡◌, ◌++◌, List, ℕ, ap, ◌∙◌, codes, append_assoc, rules}
-use Rattle.ws_plan.specs.PlanText.{abort_text, numbered}
+use Rattle.ws_plan.specs.PlanText.{abort_text}
+use Rattle.ws_plan.specs.Stages.{numbered}
 use Rattle.ws_plan.proofs.text.append_plan.Goals as goal
 
 -- four pieces, one after another
