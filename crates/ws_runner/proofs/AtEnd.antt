@@ -1,15 +1,13 @@
 -- An ending that is found before the end of the input, and one that is found at the end of what a stage takes.
-use Rattle.std.proofs.Common.{◌≡◌, ◌≢◌, ◌<◌, ℕ, zero, suc, Bool, true, false, ◌==◌, ◌||◌, List, [], ◌∷◌, ◌++◌, Option, Some, None, refl, sym, ap, ◌∙◌, arith}
-use Rattle.std.specs.Prelude.{if◌then◌else◌, nat_abs}
+use Rattle.std.proofs.Common.{◌≡◌, ◌≢◌, ◌<◌, ℕ, zero, suc, true, List, [], ◌∷◌, ◌++◌, refl, sym, ap, ◌∙◌, arith}
 use Rattle.ws_flow.specs.declared.plan.Ending.{Ending}
 use Rattle.ws_flow.specs.declared.plan.Ending.TheVariants.{Fine, Bad}
 use Rattle.ws_flow.specs.declared.plan.Stage.{Stage}
-use Rattle.ws_flow.specs.declared.plan.Stage.TheVariants.{Lines, Fixed, Hex, Unhex, Mask, Number, Frame, Unframe}
-use Rattle.ws_flow.specs.Machines.{Kept, Machine, Pushed, mark_of, more, through, or_else, verdict, ending, added, each_byte, with_rest}
-use Rattle.ws_flow.specs.Stages.{line_byte, block_byte, mask_byte, hex_byte, digit_met, unhex_byte, four_bytes, frame_has, frame_met, unframe_byte, machine, machines, is_of_end}
+use Rattle.ws_flow.specs.Machines.{Kept, Machine, mark_of, more, through, or_else, verdict, ending}
+use Rattle.ws_flow.specs.Stages.{machine, machines, is_of_end}
 use Rattle.ws_flow.specs.Told.{Mark, Open, Closed, Lost, Told, told, goes_on}
 use Rattle.ws_flow.proofs.Endings.{closed_all}
-use Rattle.hex.specs.Hex.{hex_digit_value}
+use Rattle.ws_flow.proofs.Starts.{end_closed}
 
 -- where more may come and where something was lost, a stage ends alike
 
@@ -49,74 +47,6 @@ pub found_late : (ms : List Machine) (j : ℕ) (xs : List (List ℕ)) (a : Mark)
 found_late ms j xs Open e h f = absurd (f h)
 found_late ms j xs Closed e h f = refl
 found_late ms j xs Lost e h f = absurd (f (ending_alike ms j (told xs Open) (told xs Lost) refl (λ g. grind arith) (λ g. grind arith) ∙ h))
-
--- no push finds what is found at the end only
-
-of_bytes : (f : Kept → ℕ → Pushed) → ((k : Kept) (b code place : ℕ) → (f k b).ending ≡ Bad code place → is_of_end code ≡ false) →
-    (k : Kept) (bs : List ℕ) (code place : ℕ) → (each_byte f k bs).ending ≡ Bad code place → is_of_end code ≡ false
-of_bytes f h k [] code place e = grind arith
-of_bytes f h k (b ∷ bs) code place e = by (f k b).chunks (f k b).ending (f k b).kept (each_byte f (f k b).kept bs) (λ p. h k b code p) (λ p. of_bytes f h (f k b).kept bs code p) e where
-  by : (cs : List (List ℕ)) (a : Ending) (k : Kept) (r : Pushed) → ((p : ℕ) → a ≡ Bad code p → is_of_end code ≡ false) → ((p : ℕ) → r.ending ≡ Bad code p → is_of_end code ≡ false) →
-      (added cs a k r).ending ≡ Bad code place → is_of_end code ≡ false
-  by cs Fine k r first rest e = rest place e
-  by cs (Bad c p) k r first rest e = first place e
-
-of_line : (most : ℕ) (k : Kept) (b code place : ℕ) → (line_byte most k b).ending ≡ Bad code place → is_of_end code ≡ false
-of_line most k b code place e = grind arith
-
-of_block : (n : ℕ) (k : Kept) (b code place : ℕ) → (block_byte n k b).ending ≡ Bad code place → is_of_end code ≡ false
-of_block n k b code place e = grind arith
-
-of_mask : (key : List ℕ) (k : Kept) (b code place : ℕ) → (mask_byte key k b).ending ≡ Bad code place → is_of_end code ≡ false
-of_mask key k b code place e = grind arith
-
-of_hex : (k : Kept) (b code place : ℕ) → (hex_byte k b).ending ≡ Bad code place → is_of_end code ≡ false
-of_hex k b code place e = grind arith
-
-of_digit : (k : Kept) (r : List ℕ) (d : Option ℕ) (code place : ℕ) → (digit_met k r d).ending ≡ Bad code place → is_of_end code ≡ false
-of_digit k [] (Some d) code place e = grind arith
-of_digit k (h ∷ r) (Some d) code place e = grind arith
-of_digit k [] None code place e = grind arith
-of_digit k (h ∷ r) None code place e = grind arith
-
-of_unhex : (k : Kept) (b code place : ℕ) → (unhex_byte k b).ending ≡ Bad code place → is_of_end code ≡ false
-of_unhex k b code place e = by (b == 10 || b == 13) e where
-  by : (c : Bool) → (if c then record { kept = with_rest k k.rest; chunks = []; ending = Fine } else digit_met k k.rest (hex_digit_value b)).ending ≡ Bad code place → is_of_end code ≡ false
-  by true e = grind arith
-  by false e = of_digit k k.rest (hex_digit_value b) code place e
-
-of_frame_has : (most : ℕ) (k : Kept) (n : ℕ) (r : List ℕ) (code place : ℕ) → (frame_has most k n r).ending ≡ Bad code place → is_of_end code ≡ false
-of_frame_has most k n r code place e = grind arith
-
-of_frame : (most : ℕ) (k : Kept) (r : List ℕ) (code place : ℕ) → (frame_met most k r).ending ≡ Bad code place → is_of_end code ≡ false
-of_frame most k [] code place e = grind arith
-of_frame most k (a ∷ []) code place e = grind arith
-of_frame most k (a ∷ b ∷ []) code place e = grind arith
-of_frame most k (a ∷ b ∷ c ∷ []) code place e = grind arith
-of_frame most k (a ∷ b ∷ c ∷ d ∷ r) code place e = of_frame_has most k (four_bytes a b c d) r code place e
-
-of_unframe : (most : ℕ) (k : Kept) (b code place : ℕ) → (unframe_byte most k b).ending ≡ Bad code place → is_of_end code ≡ false
-of_unframe most k b code place e = of_frame most (with_rest k (k.rest ++ b ∷ [])) (k.rest ++ b ∷ []) code place e
-
-of_push : (s : Stage) (k : Kept) (c : List ℕ) (code place : ℕ) → ((machine s).push k c).ending ≡ Bad code place → is_of_end code ≡ false
-of_push (Lines most) k c code place e = of_bytes (line_byte (nat_abs most)) (of_line (nat_abs most)) k c code place e
-of_push (Fixed n) k c code place e = of_bytes (block_byte (nat_abs n)) (of_block (nat_abs n)) k c code place e
-of_push Hex k c code place e = of_bytes hex_byte of_hex k c code place e
-of_push Unhex k c code place e = of_bytes unhex_byte of_unhex k c code place e
-of_push (Mask key) k c code place e = of_bytes (mask_byte key) (of_mask key) k c code place e
-of_push Number k c code place e = grind arith
-of_push Frame k c code place e = grind arith
-of_push (Unframe most) k c code place e = of_bytes (unframe_byte (nat_abs most)) (of_unframe (nat_abs most)) k c code place e
-
-end_closed : (s : Stage) (k : Kept) (xs : List (List ℕ)) (a : Mark) (code place : ℕ) → verdict (machine s) k xs a ≡ Bad code place → is_of_end code ≡ true → a ≡ Closed
-end_closed s k [] Open code place e f = grind arith
-end_closed s k [] Lost code place e f = grind arith
-end_closed s k [] Closed code place e f = refl
-end_closed s k (c ∷ cs) a code place e f =
-    by ((machine s).push k c).ending (verdict (machine s) ((machine s).push k c).kept cs a) (of_push s k c code place) (end_closed s ((machine s).push k c).kept cs a code place) e where
-      by : (x y : Ending) → (x ≡ Bad code place → is_of_end code ≡ false) → (y ≡ Bad code place → is_of_end code ≡ true → a ≡ Closed) → or_else x y ≡ Bad code place → a ≡ Closed
-      by Fine y g h e = h e f
-      by (Bad c p) y g h e = let l = g e in absurd (cc)
 
 -- what came to a stage that ended so is all, and each stage before ended fine
 pub fine_before : (ss : List Stage) (j : ℕ) (x : Told (List ℕ)) (code place : ℕ) → ending (machines ss) j x ≡ Bad code place → is_of_end code ≡ true →

@@ -9,13 +9,11 @@ use Rattle.ws_value.specs.declared.value.Plain.{Plain}
 use Rattle.ws_value.specs.declared.value.Value.{Value}
 use Rattle.ws_value.specs.declared.value.Value.TheVariants.{Bytes, Plain as PlainValue}
 use Rattle.ws_flow.specs.declared.plan.Plan.{Plan}
-use Rattle.ws_flow.specs.declared.plan.Stage.{Stage}
-use Rattle.ws_flow.specs.declared.plan.Stage.TheVariants.{Lines, Fixed, Hex, Unhex, Mask, Number, Frame, Unframe}
 use Rattle.ws_flow.specs.Laws.{AreShort}
-use Rattle.ws_flow.specs.Stages.{HasLength}
 use Rattle.ws_flow.specs.Plans.{stages_of}
 use Rattle.ws_flow.specs.Steps.{parts_at}
 use Rattle.ws_flow.specs.Told.{Open, Told, told, then_told, IsShortOf}
+use Rattle.ws_flow.proofs.EachKind.{kind}
 use Rattle.ws_flow.proofs.Lengths.{accepted}
 use Rattle.ws_flow.proofs.Lying.{lying_short, short_at}
 use Rattle.ws_flow.proofs.Told.{before_front, before_of_short, short_right}
@@ -58,16 +56,6 @@ use Rattle.ws_runner.proofs.Unheard.{at-there}
 among : (P : State → Type 0) (before after : List State) (w : State) → All P (before ++ w ∷ after) → P w
 among P [] after w h = All-head P w after h
 among P (u ∷ before) after w h = among P before after w (All-tail P u (before ++ w ∷ after) h)
-
-fits : (s : Stage) (n : ℕ) → n < 33554432 → HasLength s n
-fits Frame n l = omega arith
-fits (Lines k) n l = tt
-fits (Fixed k) n l = tt
-fits Hex n l = tt
-fits Unhex n l = tt
-fits (Mask key) n l = tt
-fits Number n l = tt
-fits (Unframe k) n l = tt
 
 module _ (plan : Plan) (xs : List Entry) (a : Node) (realm : SeenRealm) (since : Since plan xs a) (goes : a.stopped ≡ None) (id : HostId) where
   -- the one chunk on the first link is that which was counted
@@ -126,7 +114,7 @@ module _ (plan : Plan) (xs : List Entry) (a : Node) (realm : SeenRealm) (since :
         let old = since.led.age in
         record {
           count = omega arith;
-          length_fits = fits w.stage (length piece) (stage-short i piece before after w at live (subst (λ (c : HostCall). AfterEvent plan xs a realm (Host id c)) is event));
+          length_fits = (kind w.stage).fits (length piece) (stage-short i piece before after w at live (subst (λ (c : HostCall). AfterEvent plan xs a realm (Host id c)) is event));
         };
   }
 

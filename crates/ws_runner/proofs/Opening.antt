@@ -8,7 +8,6 @@ use Rattle.ws_value.specs.declared.ids.HostId.{HostId}
 use Rattle.ws_value.specs.declared.value.Value.{Value}
 use Rattle.ws_flow.specs.declared.plan.Plan.{Plan}
 use Rattle.ws_flow.specs.declared.plan.Stage.{Stage}
-use Rattle.ws_flow.specs.declared.plan.Stage.TheVariants.{Lines, Fixed, Hex, Unhex, Mask, Number, Frame, Unframe}
 use Rattle.ws_flow.specs.Machines.{Kept, Machine, nothing_kept}
 use Rattle.ws_flow.specs.Parts.{Live, Part, Flows, fresh, nothing_told}
 use Rattle.ws_flow.specs.Plans.{is_abort_within, is_placed_within, stages_of}
@@ -16,6 +15,7 @@ use Rattle.ws_flow.specs.Stages.{is_within, machine, machines}
 use Rattle.ws_flow.specs.Steps.{parts_at}
 use Rattle.ws_flow.specs.Told.{Told, then_told}
 use Rattle.ws_flow.proofs.Lengths.{accepted}
+use Rattle.ws_flow.proofs.Starts.{start_is}
 use Rattle.ws_flow.proofs.Steps.{behind_at as behind_last, goes_same}
 use Rattle.ws_stages.specs.State.{State, begun}
 use Rattle.ws_steps.specs.declared.calls.Call.{Call}
@@ -53,16 +53,6 @@ works_begun : (ss : List Stage) → length (map (λ (w : State). w.work) (all_be
 works_begun [] = refl
 works_begun (s ∷ ss) = ap suc (works_begun ss)
 
-start-is : (s : Stage) → (machine s).start ≡ nothing_kept
-start-is (Lines most) = refl
-start-is (Fixed n) = refl
-start-is Hex = refl
-start-is Unhex = refl
-start-is (Mask key) = refl
-start-is Number = refl
-start-is Frame = refl
-start-is (Unframe most) = refl
-
 coming-begun : (j : ℕ) (ss : List Stage) → coming_behind j (all_begun ss) ≡ nothing_yet
 coming-begun j [] = refl
 coming-begun zero (s ∷ ss) = refl
@@ -81,7 +71,7 @@ fresh-at k (s ∷ ss) x h =
     let none : x k ≡ nothing_told = h k (omega arith) (omega arith) in
     let first : record { work = Live nothing_kept; before = x k } ≡ record { work = Live (machine s).start; before = nothing_told } =
     ap (λ (t : Told (List ℕ)). record { work = Live nothing_kept; before = t }) none
-    ∙ ap (λ (r : Kept). record { work = Live r; before = nothing_told }) (sym (start-is s)) in
+    ∙ ap (λ (r : Kept). record { work = Live r; before = nothing_told }) (sym (start_is s)) in
     ap (λ (p : Part). p ∷ parts_at (suc k) (map (λ (w : State). w.work) (all_begun ss)) x) first
     ∙ ap (λ (ps : List Part). record { work = Live (machine s).start; before = nothing_told } ∷ ps) rest
 

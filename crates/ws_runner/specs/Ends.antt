@@ -1,5 +1,5 @@
 -- What a run from an input to an output may end with.
-use Rattle.std.specs.Prelude.{◌≡◌, ◌≢◌, ◌+◌, ◌-◌, ◌<◌, ◌≤◌, ◌^◌, ◌==◌, ◌||◌, ℕ, ℤ, nat_abs, Bool, List, [], length, Option, Some, None, MatchOption, ◌↔◌, true, false}
+use Rattle.std.specs.Prelude.{◌≡◌, ◌≢◌, ◌+◌, ◌-◌, ◌<◌, ◌≤◌, ◌^◌, ℕ, ℤ, nat_abs, List, [], length, Option, Some, None, MatchOption, ◌↔◌, true, false}
 use Rattle.ws_value.specs.declared.fault.Fault.TheVariants.{Read, Write, TooMuch as TooMuchFault, Stage as StageFault, Abort as AbortFault}
 use Rattle.ws_value.specs.declared.value.Outcome.TheVariants.{Pending, Fulfilled, Rejected}
 use Rattle.ws_value.specs.declared.value.Plain.{Plain}
@@ -9,7 +9,7 @@ use Rattle.ws_flow.specs.declared.plan.Ending.TheVariants.{Fine, Bad}
 use Rattle.ws_flow.specs.declared.plan.Plan.{Plan}
 use Rattle.ws_flow.specs.Machines.{ending}
 use Rattle.ws_flow.specs.Plans.{as_one, reach, stages_of}
-use Rattle.ws_flow.specs.Stages.{machines}
+use Rattle.ws_flow.specs.Stages.{is_of_end, machines}
 use Rattle.ws_flow.specs.Told.{bytes_of, Mark, Open, Closed, Told, told, IsBefore}
 use Rattle.ws_io.specs.Faults.{Rose}
 use Rattle.ws_io.specs.Feed.{Fed, IsEnded, IsEmpty}
@@ -53,10 +53,6 @@ pub record IsDone (plan : Plan) (old new : Moment) (taken gain : List ℕ) : Typ
   pub fine : (j : ℕ) → ending_of plan j taken Closed ≡ Fine
   pub whole : out_of plan taken Closed ≡ told gain Closed
   pub finished : Becomes old.finished new.finished
-
--- the codes of what a stage finds only at the end of its input: a digit that is left, and a frame that isn't whole
-abbrev pub is_of_end : ℕ → Bool
-is_of_end code = code == 3 || code == 5
 
 -- the stage of this number, from 1, ended badly over what was read: in its bytes as they come, or behind its end, and then the input was read to its end.
 -- Where the stage found it at the end of its own input, each stage before it ended fine
