@@ -1,10 +1,9 @@
 -- What a stage hands on as one chunk.
-use Rattle.std.proofs.Common.{◌≡◌, ℕ, ◌+◌, ◌<◌, List, [], ◌∷◌, ◌++◌, refl, sym, ap, ◌∙◌, length, arith}
+use Rattle.std.proofs.Common.{◌≡◌, ℕ, ◌+◌, List, [], ◌∷◌, ◌++◌, sym, ap, ◌∙◌}
 use Rattle.std.specs.List.{concat}
 use Rattle.ws_flow.specs.declared.plan.Ending.{Ending}
 use Rattle.ws_flow.specs.declared.plan.Ending.TheVariants.{Fine}
 use Rattle.ws_flow.specs.Machines.{Kept, Pushed, pushed, each_byte, byte_push, some_chunk, One, SomeBytes}
-use Rattle.ws_flow.specs.Stages.{unhex_byte}
 use Rattle.ws_stages.specs.declared.cut.Cut.{Cut}
 use Rattle.ws_stages.specs.Cuts.{CanTake, handing, kept_of, with_text}
 
@@ -21,19 +20,10 @@ one_push f k j c text b =
     let p = each_byte f k c in
     ap (λ q. pushed q (text ∷ []) Fine) (sym b.2) ∙ ap (λ t. pushed p.kept (t ∷ []) Fine) (sym b.0) ∙ ap (λ z. pushed p.kept (concat p.chunks ∷ []) z) (sym b.1)
 
--- `unhex`
-text_is : (a b : List ℕ) → a ∷ [] ≡ b ∷ [] → a ≡ b
-text_is a b h = cc
-
-pub unhex_push : (k j : Kept) (c text : List ℕ) (e : Ending) → pushed j (text ∷ []) e ≡ with_text [] (each_byte unhex_byte k c) → pushed j (some_chunk text) e ≡ byte_push SomeBytes unhex_byte k c
-unhex_push k j c text e h =
-    ap (λ q. pushed j (some_chunk q) e) (text_is text (concat (each_byte unhex_byte k c).chunks) (ap (λ q. q.chunks) h))
-    ∙ ap (λ q. pushed q.kept (some_chunk (concat (each_byte unhex_byte k c).chunks)) q.ending) h
-
-pub some_is : (text : List ℕ) → 0 < length text → some_chunk text ≡ text ∷ []
-some_is [] h = absurd (omega arith)
-some_is (b ∷ bs) h = refl
-
-pub none_is : (text : List ℕ) → length text ≡ 0 → some_chunk text ≡ []
-none_is [] h = refl
-none_is (b ∷ bs) h = cc
+-- and where they may be bad
+pub some_push : (f : Kept → ℕ → Pushed) (k j : Kept) (c text : List ℕ) (e : Ending) → pushed j (text ∷ []) e ≡ with_text [] (each_byte f k c) → pushed j (some_chunk text) e ≡ byte_push SomeBytes f k c
+some_push f k j c text e h =
+    ap (λ q. pushed j (some_chunk q) e) (text_is text (concat (each_byte f k c).chunks) (ap (λ q. q.chunks) h))
+    ∙ ap (λ q. pushed q.kept (some_chunk (concat (each_byte f k c).chunks)) q.ending) h where
+      text_is : (a b : List ℕ) → a ∷ [] ≡ b ∷ [] → a ≡ b
+      text_is a b h = cc

@@ -4,7 +4,7 @@ use Rattle.std.specs.List.{concat}
 use Rattle.ws_flow.specs.declared.plan.Ending.TheVariants.{Fine}
 use Rattle.ws_flow.specs.declared.plan.Stage.{Stage}
 use Rattle.ws_flow.specs.declared.plan.Stage.TheVariants.{Unhex}
-use Rattle.ws_flow.specs.Machines.{Kept, Pushed}
+use Rattle.ws_flow.specs.Machines.{Kept, Pushed, some_chunk}
 use Rattle.ws_stages.specs.declared.cut.Cut.{Cut}
 
 -- what the stage keeps
@@ -18,6 +18,10 @@ seen cut = record { kept = kept_of cut; chunks = cut.chunks.items; ending = cut.
 -- the same once so many bytes more came, and this chunk of them
 abbrev pub handing : Cut → ℕ → List ℕ → Pushed
 handing cut n chunk = record { kept = record (kept_of cut) { bytes = cut.bytes + n }; chunks = cut.chunks.items ++ chunk ∷ []; ending = cut.ending }
+
+-- what it shows once this text came out, as one chunk where it has a byte
+abbrev pub handing_some : Cut → List ℕ → Pushed
+handing_some cut text = record { kept = kept_of cut; chunks = some_chunk text; ending = cut.ending }
 
 -- these bytes are left over too
 abbrev pub with_bytes : Kept → List ℕ → Kept

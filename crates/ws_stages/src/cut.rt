@@ -4,7 +4,7 @@ ghost use Rattle.std.specs.Prelude.{◌≡◌, ◌∷◌, ◌++◌, [], ◌+◌,
 ghost use Rattle.ws_flow.specs.declared.plan.Ending.TheVariants.{Fine};
 ghost use Rattle.ws_flow.specs.Machines.{each_byte};
 ghost use Rattle.ws_flow.specs.Stages.{line_byte};
-ghost use Rattle.ws_stages.specs.Cuts.{HasNoFeed, handing, kept_of, seen, with_bytes, with_chunks};
+ghost use Rattle.ws_stages.specs.Cuts.{HasNoFeed, handing, handing_some, kept_of, seen, with_bytes, with_chunks};
 
 use memchr::memchr;
 use std::alloc::Global;
@@ -67,6 +67,19 @@ impl Cut {
     {
         self.bytes += bytes as u128;
         self.chunks.push(chunk)?;
+        Ok(())
+    }
+    /// This text comes out as a chunk, where it has a byte.
+    pub fn hand_on_some(&mut self, text: Vec<u8>) -> Result<(), NoMemory>
+        requires { self.old.chunks.items ≡ [] }
+        ensures seen { OnOk result (seen self.new ≡ handing_some self.old text.items) }
+        ensures rest { self.new.rest.items ≡ self.old.rest.items }
+        ensures bytes { self.new.bytes ≡ self.old.bytes }
+        ensures count { self.new.count ≡ self.old.count }
+    {
+        if !text.is_empty() {
+            self.chunks.push(Chunk::from_vec(text))?;
+        }
         Ok(())
     }
 }

@@ -9,7 +9,7 @@ use crate::cut::{Blocks, Cut, Frames, Lines, cut_bytes, cut_lines};
 use crate::text::{framed, from_hex, in_hex, masked, numbered};
 use std::alloc::Global;
 use ws_flow::{Ending, Stage};
-use ws_value::{Blob, Chunk, NoMemory};
+use ws_value::{Blob, NoMemory};
 
 /// The most bytes of a line or a frame, of a block, and of a key.
 const MOST_OF_A_CHUNK: i64 = 1_048_576;
@@ -88,10 +88,7 @@ pub(crate) fn take(stage: &Stage, cut: &mut Cut, chunk: &[u8]) -> Result<(), NoM
         Stage::Unframe { max } => cut_bytes(&Frames(max.unsigned_abs() as usize), cut, chunk),
         Stage::Unhex => {
             let text = from_hex(cut, chunk)?;
-            if !text.is_empty() {
-                cut.chunks.push(Chunk::from_vec(text))?;
-            }
-            Ok(())
+            cut.hand_on_some(text)
         }
         Stage::Hex => {
             let text = in_hex(cut, chunk)?;

@@ -3,9 +3,9 @@
 ghost use Rattle.std.specs.Prelude.{◌≡◌, ◌∷◌, ◌++◌, ◌+◌, ◌<◌, ◌≤◌, ◌^◌, IfOk, OnOk, [], decimal, length};
 ghost use Rattle.hex.specs.Hex.{hex_digit_value};
 ghost use Rattle.ws_flow.specs.declared.plan.Ending.TheVariants.{Fine};
-ghost use Rattle.ws_flow.specs.Machines.{One, byte_push, each_byte};
+ghost use Rattle.ws_flow.specs.Machines.{One, SomeBytes, byte_push};
 ghost use Rattle.ws_flow.specs.Stages.{framed, hex_byte, mask_byte, unhex_byte};
-ghost use Rattle.ws_stages.specs.Cuts.{CanTake, IsHalf, handing, kept_of, seen_text, with_text};
+ghost use Rattle.ws_stages.specs.Cuts.{CanTake, IsHalf, handing, handing_some, kept_of, seen_text, with_text};
 
 use crate::cut::Cut;
 use itoa::Buffer;
@@ -97,7 +97,7 @@ pub fn from_hex(cut: &mut Cut, bytes: &[u8]) -> Result<Vec<u8>, NoMemory>
     requires fine { cut.old.ending ≡ Fine }
     requires half { IsHalf cut.old.rest.items }
     ensures seen { IfOk result (λ text.
-        seen_text cut.new text.items ≡ with_text [] (each_byte unhex_byte (kept_of cut.old) bytes.now)) }
+        handing_some cut.new text.items ≡ byte_push SomeBytes unhex_byte (kept_of cut.old) bytes.now) }
     ensures bytes { OnOk result (cut.new.bytes ≤ cut.old.bytes + length bytes.now) }
     ensures count { OnOk result (cut.new.count ≡ cut.old.count) }
     ensures chunks { OnOk result (cut.new.chunks.items ≡ cut.old.chunks.items) }
