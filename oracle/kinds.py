@@ -1,4 +1,4 @@
-"""The kinds of stages, one table: what a file has beside a kind's name, what a stage of it makes of bytes, and what to try."""
+"""The kinds of stages: what a file has beside a name, what a stage of it makes of bytes, what to try."""
 
 from __future__ import annotations
 
@@ -59,7 +59,8 @@ class Digits:
     def value_in(self, table: dict) -> bytes | None:
         """The bytes in a stage's table, or None where they aren't two digits each."""
         text = table.get(self.key)
-        if not isinstance(text, str) or len(text) % 2 or any(digit not in HEX_DIGITS.decode() for digit in text):
+        digits = HEX_DIGITS.decode()
+        if not isinstance(text, str) or len(text) % 2 or any(digit not in digits for digit in text):
             return None
         return bytes.fromhex(text)
 
