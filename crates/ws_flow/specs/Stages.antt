@@ -19,6 +19,7 @@ line_byte most k b =
     else if nat_lt (length k.rest) most then pushed (with_rest k (k.rest ++ b ∷ [])) [] Fine
     else pushed k [] (Bad 1 k.bytes)
 
+-- what is left at the end, of `lines` and of `fixed`
 abbrev pub last_part : Kept → Pushed
 last_part k = pushed (record k { rest = [] }) (some_chunk k.rest) Fine
 
@@ -52,6 +53,7 @@ pub record BlocksDone (n : ℕ) (input : List ℕ) (cs : List (List ℕ)) (rest 
   pub blocks : All (λ c. length c ≡ n) cs
   pub short : length rest < n
 
+-- `hex`: its text, in lower case
 abbrev pub hex_byte : Kept → ℕ → Pushed
 hex_byte k b = pushed (one_byte k) (encode_lower (b ∷ []) ∷ []) Fine
 
@@ -104,11 +106,11 @@ pub record DigitWrong (cs : List (List ℕ)) (rest : List ℕ) (byte place c p :
   pub code : c ≡ 2
   pub at : p ≡ place
 
--- `mask`: the key repeated along the stage's input
+-- `mask`: xor the key's byte, the key repeated along the stage's input
 abbrev pub mask_byte : List ℕ → Kept → ℕ → Pushed
 mask_byte key k b = pushed (one_byte k) ((bit_xor b (get_or key (k.bytes % length key) 0) ∷ []) ∷ []) Fine
 
--- `mask`: each byte xor the key's byte at its place, the key repeated
+-- so each byte at its place
 abbrev pub masked : List ℕ → ℕ → List ℕ → List ℕ
 masked key place [] = []
 masked key place (b ∷ bs) = bit_xor b (get_or key (place % length key) 0) ∷ masked key (place + 1) bs
@@ -117,10 +119,10 @@ abbrev pub each_masked : List ℕ → ℕ → List (List ℕ) → List (List ℕ
 each_masked key place [] = []
 each_masked key place (c ∷ cs) = masked key place c ∷ each_masked key (place + length c) cs
 
+-- `number`: each chunk with its number from 1, and a blank
 abbrev pub number_push : Kept → List ℕ → Pushed
 number_push k c = pushed (one_more k) ((decimal (k.chunks + 1) ++ 32 ∷ c) ∷ []) Fine
 
--- `number`: each chunk with its number
 abbrev pub each_numbered : ℕ → List (List ℕ) → List (List ℕ)
 each_numbered n [] = []
 each_numbered n (c ∷ cs) = (decimal n ++ 32 ∷ c) ∷ each_numbered (n + 1) cs
@@ -130,6 +132,7 @@ abbrev pub framed : List ℕ → List ℕ
 framed c =
     (length c / 16777216 % 256) ∷ (length c / 65536 % 256) ∷ (length c / 256 % 256) ∷ (length c % 256) ∷ c
 
+-- `frame`
 abbrev pub frame_push : Kept → List ℕ → Pushed
 frame_push k c = pushed (one_more k) (framed c ∷ []) Fine
 
@@ -180,8 +183,9 @@ pub record FrameWrong (most : ℕ) (cs : List (List ℕ)) (rest : List ℕ) (byt
   pub code : c ≡ 4
   pub at : p + length rest ≡ place
 
--- The kinds
+-- What is said of each kind
 
+-- what it sees of its input, and what comes of that
 abbrev pub form : Stage → Form
 form (Lines most) = OfBytes AsCut (line_byte (nat_abs most)) last_part
 form (Fixed n) = OfBytes AsCut (block_byte (nat_abs n)) last_part

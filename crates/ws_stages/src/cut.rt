@@ -69,6 +69,7 @@ impl Cut {
         self.chunks.push(chunk)?;
         Ok(())
     }
+
     /// This text comes out as a chunk, where it has a byte.
     pub fn hand_on_some(&mut self, text: Vec<u8>) -> Result<(), NoMemory>
         requires { self.old.chunks.items ≡ [] }
