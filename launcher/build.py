@@ -1,7 +1,7 @@
 #!/usr/bin/env python3
 """Proves and builds the program, in a copy of its crates, by the kit's own gate: `rt ci` proves as many crates side by side as there are processors
-and memory for, those with the longest chain behind them first, and keeps what passed, for a build that was interrupted and for the gate. It says on
-standard error how far it is. (`rt lib` locks all crates below its own, so that two of them wait for each other.)"""
+and memory for, those with the longest chain behind them first. Some kits keep what passed, for a build that was interrupted and for the gate. It says
+on standard error how far it is. (`rt lib` locks all crates below its own, so that two of them wait for each other.)"""
 import contextlib
 import ctypes
 import errno
@@ -156,7 +156,8 @@ def make():
 def end(number, _):
     """Ends the build where its process is told to end."""
     signal.signal(number, signal.SIG_IGN)
-    raise exits.Stop(exits.ENDED, "the build was ended before it was done: what was proved is kept, and the next one goes on from there")
+    left = "what was proved is kept, and the next one goes on from there" if kit.keeps() else "this kit's rt ci keeps nothing, so the next one begins anew"
+    raise exits.Stop(exits.ENDED, f"the build was ended before it was done: {left}")
 
 
 def build():

@@ -72,11 +72,20 @@ class Progress:
     def proved(self, crate, gone):
         """Takes note that a crate was proved, these seconds after the start."""
         self.done += self.cost[crate]
-        self.pace = gone / max(self.ends[crate], 1)
+        self.pace = gone / max(self.reached(), 1)
+
+    def reached(self):
+        """The second in which as much would be proved here, were this machine as fast as the one of docs/GATE.md."""
+        proved = 0
+        for crate, end in sorted(self.ends.items(), key=lambda it: it[1]):
+            proved += self.cost[crate]
+            if proved >= self.done:
+                break
+        return end
 
     def told(self, gone):
         """How far it is, these seconds after the start."""
-        line = f"{min(99, 100 * self.done // self.whole)} % of the work, {clock(gone)}"
+        line, whole = f"{min(99, 100 * self.done // self.whole)} % of the work, {clock(gone)}", max(self.ends.values())
         if self.pace:
-            line += f", about {clock(max(self.pace * max(self.ends.values()) - gone, 5))} left"
-        return line
+            return f"{line}, about {clock(max(self.pace * whole - gone, 5))} left"
+        return f"{line}, about {clock(whole)} left on the machine of docs/GATE.md"

@@ -155,6 +155,17 @@ class Launcher(unittest.TestCase):
         self.assertEqual((asked.returncode, out), (0, b"last\n"), said)
         self.assertEqual(self.calls("try"), [])
 
+    def test_a_terminal_waits_and_says_so(self):
+        end, to = os.openpty()
+        self.addCleanup(os.close, end)
+        with open(to) as terminal:
+            asked = subprocess.Popen([self.top / "streams", "run"], stdin=terminal, stdout=subprocess.PIPE, stderr=subprocess.PIPE, env=self.env)
+        os.write(end, b"typed\n\x04")
+        out, said = asked.communicate(timeout=20)
+        self.assertEqual((asked.returncode, out), (0, b"typed\n"), said)
+        self.assertIn(b"this waits for it", said)
+        self.assertEqual(self.calls("try"), [])
+
     def test_input_of_more_than_64_mib_is_kept(self):
         much = bytes(range(256)) * (65 << 12)
         ran = self.run_streams("run", given=much)
@@ -192,6 +203,8 @@ class Launcher(unittest.TestCase):
         self.set("ci_seconds", "4")
         ran = self.run_streams("run", given=b"x", env={"STREAMS_PROVED": "1"})
         self.assertGreaterEqual(len(re.findall("^streams: proving: ", ran.stderr.decode(), re.MULTILINE)), 4, ran.stderr)
+        # Before a crate is proved nobody knows how fast this machine is.
+        self.assertRegex(ran.stderr.decode(), r"proving: 0 % of the work, 0 min 0\d s, about \d min \d\d s left on the machine of docs/GATE.md\n")
 
     def test_two_at_once_prove_once(self):
         self.set("ci_seconds", "2")
@@ -220,6 +233,31 @@ class Launcher(unittest.TestCase):
             self.assertEqual(list(self.tmp.iterdir()), [])
         self.set("ci_seconds", "0")
         self.built()
+
+    def ended_behind_low(self):
+        """What a build says that is ended once the crate low was proved."""
+        self.set("ci_seconds_streams", "60")
+        asked = subprocess.Popen([self.top / "streams", "run"], stdin=subprocess.DEVNULL, stdout=subprocess.PIPE, stderr=subprocess.PIPE, env={**self.env, "STREAMS_PROVED": "1"})
+        far = self.top / "crates/streams/out/build.progress"
+        self.until(lambda: far.exists() and far.read_text().startswith("low proved"), "a crate is proved")
+        asked.send_signal(signal.SIGTERM)
+        _, said = asked.communicate(timeout=20)
+        self.assertEqual(asked.returncode, 75, said)
+        (self.stub / "ci_seconds_streams").unlink()
+        return said.decode()
+
+    def test_with_a_kit_that_keeps_the_next_build_goes_on(self):
+        self.set("keeps")
+        self.assertIn("what was proved is kept, and the next one goes on from there", self.ended_behind_low())
+        ran = self.run_streams("run", given=b"x", env={"STREAMS_PROVED": "1"})
+        self.assertEqual((ran.returncode, ran.stdout), (0, b"x"), ran.stderr)
+        self.assertIn(b"low is kept: 50 % of the work", ran.stderr)
+
+    def test_with_a_kit_that_keeps_nothing_the_next_build_begins_anew(self):
+        self.assertIn("keeps nothing, so the next one begins anew", self.ended_behind_low())
+        ran = self.run_streams("run", given=b"x", env={"STREAMS_PROVED": "1"})
+        self.assertEqual((ran.returncode, ran.stdout), (0, b"x"), ran.stderr)
+        self.assertIn(b"low proved: 50 % of the work", ran.stderr)
 
     def test_a_killed_build_leaves_no_process(self):
         self.set("ci_seconds", "60")
@@ -343,9 +381,21 @@ class Launcher(unittest.TestCase):
             said = self.assert_ended(self.run_streams("run"), 72, "isn't found")
             self.assertIn("older than its sources", said)
 
-    def test_another_kit(self):
-        self.set("version", "rattle-kit-99 logic 0")
-        self.assert_ended(self.run_streams("run"), 78, "^streams: rt is of rattle-kit-99 logic 0, and this is proved with .*\n$")
+    def test_a_kit_of_another_name_with_the_same_logic_is_taken(self):
+        self.assertNotIn(b"rt is of", self.run_streams("run", given=b"x").stderr)
+        self.until(lambda: not self.living(), "the build goes on")
+        (self.top / "crates/streams/out/streams").unlink()
+        self.set("version", "rattle-kit-99 logic dac8208d650f15bf")
+        ran = self.run_streams("run", given=b"x")
+        self.assertEqual((ran.returncode, ran.stdout), (0, b"x"), ran.stderr)
+        self.assertEqual(len(re.findall("^streams: rt is of rattle-kit-99, which has the same logic as .*$", ran.stderr.decode(), re.MULTILINE)), 1, ran.stderr)
+
+    def test_a_kit_with_another_logic(self):
+        for version in ("rattle-kit-99 logic 0", "rattle-kit-13b logic 0", "rattle-kit-13b"):
+            self.set("version", version)
+            self.assert_ended(self.run_streams("run"), 78, f"^streams: rt is of {version}, and this is proved with logic .*\n$")
+        self.set("version")
+        self.assert_ended(self.run_streams("run"), 78, "^streams: rt is of an unknown kit, and this is proved with logic .*\n$")
         self.assertEqual(self.run_streams("run", given=b"x", env={"STREAMS_KIT": "any"}).stdout, b"x")
 
     def test_folders_that_cannot_be_written(self):
