@@ -1,7 +1,7 @@
 #!/usr/bin/env python3
 """Measures what a run of the gate takes, by crate, and writes the table of docs/GATE.md. Nothing else may prove or compile meanwhile.
 
-    .ci/times.py run SAMPLES COMMAND..     runs the command, as `rt ci --anew`, and keeps the processor time of each process of the kit in the file SAMPLES
+    .ci/times.py run SAMPLES COMMAND..     runs the command, as `rt ci` from nothing, and keeps the processor time of each process of the kit in the file SAMPLES
     .ci/times.py table SAMPLES..           writes the table of what these runs took together"""
 import json
 import math
