@@ -81,6 +81,5 @@ pub record Sound (x : byte.Slots) : Type 0 where
   pub held : Held x
   pub backed : Backed x
 
--- in every run each byte stream is sound
 abbrev pub EachByteStreamIsSound : Type 0
 EachByteStreamIsSound = (entries : List Entry) (i : StreamId) → let s : Slots = run entries empty in has_byte i s ≡ true → Sound (byte_at i s)

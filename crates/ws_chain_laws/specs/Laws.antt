@@ -14,7 +14,6 @@ use Rattle.ws_link_laws.specs.Room.{taken_places}
 use Rattle.ws_wire_laws.specs.Wire.{IsJoint}
 use Rattle.ws_chain_laws.specs.Chain.{Origin, Target, joint_of, source_of, dest_of, link_of, behind_at, IsChain, call_enters, job_enters, heard_at, LeavesChain}
 
--- The list of its links is wired just where each of them, by its number, is a link with room for one chunk
 pub record IsByNumber (origin : Origin) (target : Target) (n : ℕ) (s : Slots) : Type 0 where
   pub each : IsChain origin target n s → (k : ℕ) → k ≤ n → IsJoint (joint_of origin target n k) s
   pub all : ((k : ℕ) → k ≤ n → IsJoint (joint_of origin target n k) s) → IsChain origin target n s
@@ -22,13 +21,10 @@ pub record IsByNumber (origin : Origin) (target : Target) (n : ℕ) (s : Slots) 
 abbrev pub EachChainIsByNumber : Type 0
 EachChainIsByNumber = (origin : Origin) (target : Target) (n : ℕ) (s : Slots) → IsByNumber origin target n s
 
--- It stays a chain, and on each link what the host heard, followed by what is behind it then, is short of what was behind it before,
--- followed by what entered
 pub record KeepsChain (origin : Origin) (target : Target) (n : ℕ) (s z : Slots) (heard entered : ℕ → Told Value) : Type 0 where
   pub chain : IsChain origin target n z
   pub short : (k : ℕ) → k ≤ n → IsShortOf (then_told (heard k) (behind_at k z)) (then_told (behind_at k s) (entered k))
 
--- over any run that leaves each link alone
 abbrev pub EachChainKeeps : Type 0
 EachChainKeeps =
     (origin : Origin) (target : Target) (n : ℕ) (s : Slots) (entries : List Entry) → IsChain origin target n s → ((k : ℕ) → k ≤ n → all_leave (source_of k) (dest_of k) entries ≡ true)
@@ -42,7 +38,7 @@ pub record KeepsBehind (origin : Origin) (target : Target) (n : ℕ) (s z : Slot
 abbrev pub EachCallKeepsChain : Type 0
 EachCallKeepsChain = (origin : Origin) (target : Target) (n : ℕ) (s : Slots) (c : Call) → IsChain origin target n s → LeavesChain n c → KeepsBehind origin target n s (after_call c s) (λ k. call_enters origin k c)
 
--- nor by a job, which brings nothing but the end of one stream, where it is the reaction to a flush that went well
+-- what the next job brings to link k
 abbrev pub next_enters : ℕ → Option Job → Told Value
 next_enters k None = silence
 next_enters k (Some job) = job_enters k job
@@ -62,6 +58,5 @@ next_heard origin target n k (Some e) = heard_at origin target n k e
 abbrev pub EachEventKeepsChain : Type 0
 EachEventKeepsChain = (origin : Origin) (target : Target) (n : ℕ) (s : Slots) → IsChain origin target n s → KeepsHeard origin target n s (after_event s) (λ k. next_heard origin target n k (first_event s.promises.events))
 
--- at most one chunk is between a source's queue and the end of a write
 abbrev pub EachChainHasRoom : Type 0
 EachChainHasRoom = (origin : Origin) (target : Target) (n : ℕ) (s : Slots) → IsChain origin target n s → (k : ℕ) → k ≤ n → taken_places (source_of k) (dest_of k) (link_of k) s ≤ 1

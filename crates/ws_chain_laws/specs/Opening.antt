@@ -104,7 +104,6 @@ pub record BeginsWiring (xs : List Segment) (n : ℕ) (signalled : Bool) : Type 
   pub writable : (writable_at (dest_of n) (opened_of xs n signalled)).state ≡ Writable
   pub not_closing : is_closing (writable_at (dest_of n) (opened_of xs n signalled)) ≡ false
 
--- where there may be so many streams
 abbrev pub EachWiringBegins : Type 0
 EachWiringBegins = (xs : List Segment) (n : ℕ) (signalled : Bool) → (behind_segments xs nothing_made).link ≡ suc n → 2 * n + 2 ≤ most_streams → BeginsWiring xs n signalled
 
@@ -121,6 +120,5 @@ pub record BeginsChain (origin : Origin) (target : Target) (n : ℕ) (signalled 
   pub writable : (writable_at (dest_of n) (opened origin target n signalled)).state ≡ Writable
   pub not_closing : is_closing (writable_at (dest_of n) (opened origin target n signalled)) ≡ false
 
--- where there may be so many streams
 abbrev pub EachChainBegins : Type 0
 EachChainBegins = (origin : Origin) (target : Target) (n : ℕ) (signalled : Bool) → 2 * n + 2 ≤ most_streams → BeginsChain origin target n signalled

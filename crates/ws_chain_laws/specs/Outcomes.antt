@@ -51,7 +51,6 @@ pub data Flushes (k : ℕ) (entries : List Entry) : Type 0 where
   BringsTheEnd : next_enters (suc k) (next_job (run entries empty).promises) ≡ told [] Closed → WasSettledWell entries (Flush (source_of (suc k)))
       → Flushes k entries
 
--- In every run that led to a chain, a job brings nothing to the source
 pub record JobBrings (n : ℕ) (entries : List Entry) : Type 0 where
   pub source : next_enters 0 (next_job (run entries empty).promises) ≡ silence
   pub half : (k : ℕ) → suc k ≤ n → Flushes k entries

@@ -53,9 +53,6 @@ heard_from origin target n k (Called c ∷ xs) s = heard_from origin target n k 
 heard_from origin target n k (Worked ∷ xs) s = heard_from origin target n k xs (step s Worked)
 heard_from origin target n k (Heard ∷ xs) s = then_told (next_heard origin target n k (first_event s.promises.events)) (heard_from origin target n k xs (step s Heard))
 
--- It stays a chain. On each link what the host heard, followed by what is behind it then, is what was brought, or a first part of that which says so.
--- No call brought a reason through a transform stream, or into a byte stream. The last pipe is rejected only with a failure; but with a DataCloneError
--- also where there is a port at an end. Where it is fulfilled and goes to a sink of the host's, that closed well
 pub record NodeGoes (origin : Origin) (target : Target) (n : ℕ) (signalled : Bool) (xs : List Entry) : Type 0 where
   pub chain : IsChain origin target n (run xs (chained origin target n signalled))
   pub quiet : through xs (chained origin target n signalled) ≡ []
@@ -66,12 +63,10 @@ pub record NodeGoes (origin : Origin) (target : Target) (n : ℕ) (signalled : B
   pub fulfilled : (v : Plain) → target ≡ ToSink → outcome_at (run (past_of origin target n signalled xs) empty).promises (last_promise origin target n signalled) ≡ Some (Fulfilled v)
       → IsClosedWell n (past_of origin target n signalled xs)
 
--- from the opening of a chain on, in any run of a node
 abbrev pub EachNodeGoes : Type 0
 EachNodeGoes = (origin : Origin) (target : Target) (n : ℕ) (signalled : Bool) (xs : List Entry) → 2 * n + 2 ≤ most_streams → AreNodes xs → NodeGoes origin target n signalled xs
 
--- The same of the links of any segments, and of all that enters at their sources: they stay links, and on each what the host heard, followed by what is
--- behind it then, is what entered, or a first part of that which says so
+-- the same of the links of any segments
 pub record WiringGoes (xs : List Segment) (n : ℕ) (signalled : Bool) (entries : List Entry) : Type 0 where
   pub wired : IsWired (wiring xs nothing_made) (run entries (wired_of xs n signalled))
   pub short : Each

@@ -67,27 +67,28 @@ pub fn each_event_keeps_chain()
     ensures { EachEventKeepsChain }
 {}
 
-/// The sources, transform streams and sinks of any segments, which are made one after another and then piped, are
-/// links, behind none of which anything lies.
+/// The sources, transform streams and sinks of any segments, which are made one after another in a new realm and then
+/// piped, are links, behind none of which anything lies.
 ///
 /// Each segment is a chain of its own: from a source of the host's own or the readable end of a port, by transform
 /// streams of the host's, to a sink of the host's own or the writable end of a port. There is room for so many streams.
-/// Their streams are made in order with start algorithms of undefined, then perhaps a signal, and then the pipes in
-/// order, nothing prevented and the last with the signal. Each pipe is answered the promise that it keeps, which is
-/// watched, and no port posts.
+/// Their streams are made in order with start algorithms of undefined, with the mark 0 where they give chunks and the
+/// mark 1 where they take them, and count their chunks, but for a byte stream, which allocates no rooms. Then there is
+/// perhaps a signal, and then the pipes in order, nothing prevented and the last with the signal. Each pipe is answered
+/// the promise that it keeps, which is watched, and no port posts.
 ///
 /// Of: chains, links, the steps up to the first read.
 pub fn each_wiring_begins()
     ensures { EachWiringBegins }
 {}
 
-/// A source, any number of transform streams of the host's and a sink that are made and piped one to the next are a
-/// chain, behind whose links nothing lies.
+/// A source, any number of transform streams of the host's and a sink that are made in a new realm and piped one to
+/// the next are a chain, behind whose links nothing lies.
 ///
 /// The source has a controller of either kind, or is the readable end of a port, the sink may be the writable end of
-/// one, and there is room for so many streams. The calls make these streams with start algorithms of undefined, then
-/// perhaps a signal, and then the pipes in order, nothing prevented and the last with the signal. Each pipe is
-/// answered the promise that it keeps, which is watched, and no port posts.
+/// one, and there is room for so many streams. The calls that make these streams, a signal perhaps and the pipes are
+/// those of one segment (`each_wiring_begins`). Each pipe is answered the promise that it keeps, which is watched, and
+/// no port posts.
 ///
 /// Of: chains, the steps up to the first read.
 pub fn each_chain_begins()
@@ -129,7 +130,7 @@ pub fn each_event_is_heard_at_one_link()
 /// rejected only with a reason by which a call failed something; and where it is fulfilled, a sink of the host's own
 /// is closed, and the host settled its close well.
 ///
-/// This is said after the opening of a chain and any run. The promises of its pipes are those that they were
+/// This is said after the opening of a chain (`each_chain_begins`) and any run. The promises of its pipes are those that they were
 /// answered, and are watched. The first part is said where no call of that run brought anything through a transform
 /// stream; in a realm with a tee the reason may be a pair of reasons too, and in one with a port a DataCloneError.
 /// The second is said of every realm.
@@ -163,9 +164,10 @@ pub fn each_chain_has_room()
 ///
 /// The run has calls by which the host does these, where it fails only streams that give chunks, jobs, and events
 /// that it takes, and the chain stays one; it has no termination, and so nothing comes through a transform stream. The
-/// last pipe is rejected only with a reason by which one of these calls fails something, or with a DataCloneError where
-/// an end of the chain is that of a port; and where it is fulfilled a sink of the host's own is closed, and the host
-/// settled its close well (`each_chain_ends`). The pipelines of `run` are such chains.
+/// opening is that of `each_chain_begins`, in a new realm, and no other call is made. The last pipe is rejected only
+/// with a reason by which one of these calls fails something, or with a DataCloneError where an end of the chain is
+/// that of a port; and where it is fulfilled a sink of the host's own is closed, and the host settled its close well
+/// (`each_chain_ends`). The pipelines of `run` are such chains.
 ///
 /// Of: chains, host calls, pipes.
 pub fn each_node_goes()
@@ -176,8 +178,9 @@ pub fn each_node_goes()
 /// each link what the host heard, followed by what is behind it then, is what entered, or a first part of that which
 /// says that it is cut short.
 ///
-/// The run is one of `each_node_goes`, and the links stay links. So it is of several chains in one realm, of which
-/// `each_step_moves_one_link` tells that what moves one link leaves the others alone.
+/// The run is one of `each_node_goes`, behind the opening of `each_wiring_begins`, and the links stay links. So it is
+/// of several chains in one realm, of which `each_step_moves_one_link` tells that what moves one link leaves the others
+/// alone.
 ///
 /// Of: chains, links, host calls.
 pub fn each_wiring_goes()

@@ -58,14 +58,11 @@ pub record ReasonsAreFailures (origin : Origin) (target : Target) (n : ℕ) (sig
   pub posted : (c : PortId) (r : Plain) (before after : List Message)
       → posted_in c (run_events (past_of origin target n signalled xs) empty) ≡ before ++ Error r ∷ after → Contains (failures xs) r
 
--- from the opening of a chain on, in any run of a node which brings nothing that can't be cloned
 abbrev pub EachNodeClones : Type 0
 EachNodeClones =
     (origin : Origin) (target : Target) (n : ℕ) (signalled : Bool) (xs : List Entry) → 2 * n + 2 ≤ most_streams → AreNodes xs → AllBringClones xs
     → ReasonsAreFailures origin target n signalled xs
 
--- Once an error was delivered to a port with a writable end it posts none but with the reason of a failure before that, where no failure is a
--- DataCloneError
 abbrev pub EachNodeErrorIsOlder : Type 0
 EachNodeErrorIsOlder =
     (origin : Origin) (target : Target) (n : ℕ) (signalled : Bool) (pre rest : List Entry) (c : PortId) (up r : Plain) (before after : List Message)

@@ -25,20 +25,17 @@ abbrev pub has_close : List Message → Bool
 has_close [] = false
 has_close (m ∷ ms) = is_close m || has_close ms
 
--- A port with a writable end posts a close only where the close algorithm of its stream was performed, and then all that was written to it was
--- posted
+-- a port with a writable end, by what it posted, and its stream
 pub record PostsCloseLast (posted : List Message) (h : Writes) : Type 0 where
   pub closes : has_close posted ≡ true → 0 < h.closes
   pub written : has_close posted ≡ true → chunks_in posted ≡ h.written
 
--- in every run
 abbrev pub EachWritableEndPostsCloseLast : Type 0
 EachWritableEndPostsCloseLast =
     (entries : List Entry) (c : PortId) → let s : Slots = run entries empty in let x : cross.Slots = port_at c s in
     has_port c s ≡ true → x.side ≡ WritableSide → PostsCloseLast (posted_in c (run_events entries empty)) (run_writes x.stream entries empty)
 
--- The stream at a readable end of a port is asked to close, and closes without a cancel, only where a close was delivered while the port was
--- entangled
+-- a port with a readable end, by what was delivered to it, and its stream
 pub record ClosesByMessage (taken : List Message) (f : Flow) (r : readable.Slots) : Type 0 where
   pub requested : r.close_requested ≡ true → has_close taken ≡ true
   pub closed : f.cancelled ≡ false → r.state ≡ Closed → has_close taken ≡ true

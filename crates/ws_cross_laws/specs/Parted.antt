@@ -9,7 +9,6 @@ use Rattle.ws_steps.specs.PortHistory.{posted_in, has_end}
 use Rattle.ws_steps.specs.Run.{Entry, run}
 use Rattle.ws_steps.specs.Slots.{Slots, empty, has_port, port_at, readable_at}
 
--- in every run, while the stream is readable it has posted none
 abbrev pub NonePostsAnErrorWhileReadable : Type 0
 NonePostsAnErrorWhileReadable =
     (entries : List Entry) (c : PortId) → let s : Slots = run entries empty in let x : cross.Slots = port_at c s in

@@ -9,15 +9,13 @@ use Rattle.ws_steps.specs.Run.{Entry, run}
 use Rattle.ws_steps.specs.Histories.{run_events}
 use Rattle.ws_steps.specs.PortHistory.{posted_in, run_taken, chunks_in, asks_in, has_end, ends_last, goes_up, goes_down}
 
--- A port with a readable end posts pulls and errors alone, and nothing after an error. It is entangled until a close or an error was delivered,
--- or an error posted
+-- a port with a readable end
 pub record PostsUp (taken posted : List Message) (x : cross.Slots) : Type 0 where
   pub posts : All (λ m. goes_up m ≡ true) posted
   pub last : ends_last posted ≡ true
   pub live : x.live ≡ not (has_end taken || has_end posted)
 
--- A port with a writable end posts chunks, a close and errors alone, and nothing after a close or an error. It is entangled until then. The
--- chunks are no more than the pulls and the errors that were delivered
+-- a port with a writable end
 pub record PostsDown (taken posted : List Message) (x : cross.Slots) : Type 0 where
   pub credit : length (chunks_in posted) ≤ asks_in taken
   pub posts : All (λ m. goes_down m ≡ true) posted

@@ -16,6 +16,5 @@ can_be_sent (Chunk v) = is_value_cloneable v
 can_be_sent Close = true
 can_be_sent (Error r) = is_cloneable r
 
--- in every run, whatever a port posts
 abbrev pub EachPostCanBeSent : Type 0
 EachPostCanBeSent = (entries : List Entry) (c : PortId) → All (λ m. can_be_sent m ≡ true) (posted_in c (run_events entries empty))

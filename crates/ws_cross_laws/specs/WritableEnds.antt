@@ -8,7 +8,6 @@ use Rattle.ws_steps.specs.Run.{Entry, run, step}
 use Rattle.ws_steps.specs.WritableHistory.{step_writes}
 use Rattle.ws_steps.specs.Laws.{IsWritableStep}
 
--- in every run
 abbrev pub EachWritableEndStep : Type 0
 EachWritableEndStep =
     (entries : List Entry) (x : Entry) (i : StreamId) (c : PortId) → let s : Slots = run entries empty in

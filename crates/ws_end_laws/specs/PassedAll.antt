@@ -28,27 +28,21 @@ FindsNoFailure p m =
     is_live (pipe_at p m.found).phase ≡ true → is_live (pipe_at p (leaves m)).phase ≡ false
     → ((pipe_at p m.found).phase ≡ Waiting) ⊎ (is_failing (writable_at (pipe_at p m.found).dest m.found).state ≡ false)
 
--- In every run, a pipe that ended without an error, and whose destination was neither erroring nor errored as it began its action, or ended without
--- one, unless it had waited by then: it has passed on all that it read, and dropped nothing
 abbrev pub EachUnfailingPipePassedAll : Type 0
 EachUnfailingPipePassedAll =
     (entries : List Entry) (p : PipeId)
     → AllMoments (FindsNoFailure p) (run_moments entries empty) → (run_course p entries empty).ended ≡ None ∷ [] → IsPassedOn (run_through p entries empty)
 
--- In every run, a pipe that ended without an error, and whose destination is closed: it has passed on all that it read, and dropped nothing
 abbrev pub EachPipeThatClosedPassedAll : Type 0
 EachPipeThatClosedPassedAll =
     (entries : List Entry) (p : PipeId) → let s : Slots = run entries empty in
     (run_course p entries empty).ended ≡ None ∷ [] → (writable_at (pipe_at p s).dest s).state ≡ Closed → IsPassedOn (run_through p entries empty)
 
--- In every run, a pipe without preventClose that ended without an error: it has passed on all that it read, and dropped nothing. For one that
--- closes a destination which is erroring or errored ends with an error
 abbrev pub EachPipeThatMayClosePassedAll : Type 0
 EachPipeThatMayClosePassedAll =
     (entries : List Entry) (p : PipeId)
     → (run_course p entries empty).ended ≡ None ∷ [] → (pipe_at p (run entries empty)).prevent.close ≡ false → IsPassedOn (run_through p entries empty)
 
--- The same of a pipe whose promise is fulfilled
 abbrev pub EachFulfilledPipePassedAllItRead : Type 0
 EachFulfilledPipePassedAllItRead =
     (entries : List Entry) (p : PipeId) (x : pipe.Slots) (v : Plain) → slice_get (run entries empty).pipes p.0 ≡ Some x

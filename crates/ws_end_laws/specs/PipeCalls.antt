@@ -103,6 +103,5 @@ pub record IsPipeCall (from to : StreamId) (not_to : Prevent) (by : Option Signa
   pub no_dest : has_writable to s ≡ false → reply_to (PipeCall from to not_to by) s ≡ Throws Unsupported
   pub no_signal : has_signal_where by s ≡ false → reply_to (PipeCall from to not_to by) s ≡ Throws Unsupported
 
--- Each pipeTo, whatever it finds
 abbrev pub EachPipeCallMakesAPipe : Type 0
 EachPipeCallMakesAPipe = (from to : StreamId) (not_to : Prevent) (by : Option SignalId) (s : Slots) → IsPipeCall from to not_to by s

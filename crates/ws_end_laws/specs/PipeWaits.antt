@@ -52,8 +52,6 @@ pub record WaitsForReady (me : PipeId) (ends : Ends) (operation : PipeOperation)
   pub looks : is_look operation ≡ true → x.phase ≡ Flowing → first_condition x.prevent ends ≡ None → LooksOn me ends (looked operation x) t b
   pub others : (is_look operation ≡ false) ⊎ ((x.phase ≢ Flowing) ⊎ (first_condition x.prevent ends ≢ None)) → b.slots.waits ≡ (looked operation x).waits
 
--- A pipe waits for its writer from a look on that finds nothing else to do until it hears that the writer is ready, and no longer and no more than
--- once, whatever it finds
 abbrev pub EachPipeWaitsForReady : Type 0
 EachPipeWaitsForReady =
     (p : PipeId) (ends : Ends) (operation : PipeOperation) (x : Slots) (t : Table) → WaitsForReady p ends operation x t (pipe_operation p ends operation (starting x t))
@@ -101,11 +99,9 @@ pub record CountsItsParts (me : PipeId) (ends : Ends) (x : Slots) (t : Table) : 
   pub none : pipe_operation me ends NoParts (starting x t) ≡ all_settled (Ok Undefined) x t
   pub others : (operation : PipeOperation) → is_of_parts operation ≡ false → KeepsItsParts x t (pipe_operation me ends operation (starting x t))
 
--- Each pipe counts its parts so, whatever it finds
 abbrev pub EachPipeCountsItsParts : Type 0
 EachPipeCountsItsParts = (p : PipeId) (ends : Ends) (x : Slots) (t : Table) → CountsItsParts p ends x t
 
--- In every run, as long as a pipe has the promise of all of its parts, that is pending
 abbrev pub EachWholeIsOpen : Type 0
 EachWholeIsOpen =
     (entries : List Entry) (p : PipeId) (w : PromiseId) → let s : realm.Slots = run entries realm.empty in

@@ -22,8 +22,6 @@ pub record IsOpenUntilTheEnd (x : pipe.Slots) (ended : List (Option Plain)) (out
   pub before : is_over x.phase ≡ false → (ended ≡ []) × (outcome ≡ Some Pending)
   pub after : is_over x.phase ≡ true → (e : Option Plain) × ((ended ≡ e ∷ []) × (outcome ≡ Some (outcome_of_end e)))
 
--- In every run, of each pipe: the promise that its call answered is pending until the pipe is over; and from the end of the step in which it is,
--- it is fulfilled with undefined where the pipe ended without an error, and rejected with the error with which it ended
 abbrev pub EachPromiseIsOpenUntilTheEnd : Type 0
 EachPromiseIsOpenUntilTheEnd =
     (entries : List Entry) (p : PipeId) (x : pipe.Slots) → slice_get (run entries empty).pipes p.0 ≡ Some x
@@ -35,8 +33,6 @@ pub record TellsTheEnd (ended : List (Option Plain)) (outcome : Option Outcome) 
   pub fulfilled : (v : Plain) → outcome ≡ Some (Fulfilled v) → (v ≡ Undefined) × (ended ≡ None ∷ [])
   pub rejected : (e : Plain) → outcome ≡ Some (Rejected e) → ended ≡ Some e ∷ []
 
--- In every run, of each pipe: where the promise is pending, the pipe came to no end; where it is fulfilled, it ended once, without an error; and
--- where it is rejected, it ended once, with that error
 abbrev pub EachOutcomeTellsTheEnd : Type 0
 EachOutcomeTellsTheEnd =
     (entries : List Entry) (p : PipeId) (x : pipe.Slots) → slice_get (run entries empty).pipes p.0 ≡ Some x → TellsTheEnd (run_course p entries empty).ended (outcome_at (run entries empty).promises x.promise)

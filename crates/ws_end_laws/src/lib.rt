@@ -89,6 +89,8 @@ pub fn each_pipe_that_closed_passed_all()
 
 /// A pipe without `preventClose` that ended without an error has passed on all that it read, and dropped nothing.
 ///
+/// One that closes a destination which is erroring or errored ends with an error.
+///
 /// Of: pipes, closing must be propagated forward, finalize.
 pub fn each_pipe_that_may_close_passed_all()
     ensures { EachPipeThatMayClosePassedAll }

@@ -35,7 +35,6 @@ abbrev pub EachCloseIsWhole : Type 0
 EachCloseIsWhole =
     (ms : List Machine) (x : Told (List ℕ)) → (all_through ms x).mark ≡ Closed → (x.mark ≡ Closed) × ((j : ℕ) → ending ms j x ≡ Fine)
 
--- another cutting of the input changes neither the joined output nor an ending
 abbrev pub EachCuttingIsAlike : Type 0
 EachCuttingIsAlike =
     (ss : List Stage) (x y : Told (List ℕ)) → sees_known_chunks false ss ≡ true → bytes_of x ≡ bytes_of y →
@@ -47,8 +46,6 @@ EachFirstBytesStay =
     (ss : List Stage) (a b : List ℕ) (e : Mark) → sees_known_chunks false ss ≡ true →
     IsBefore (bytes_of (reach ss a Open)) (bytes_of (reach ss (a ++ b) e))
 
--- what a node put out is a first part of what its stages make of what came in; while nothing was lost, that and what lies in the node
--- is all of it; and one going on after another is one
 abbrev pub EachNodeFlows : Type 0
 EachNodeFlows =
     (ms : List Machine) (x : Told (List ℕ)) (ps : List Part) (out : Told (List ℕ)) → Flows ms x ps out →
@@ -68,7 +65,6 @@ EachPlaceKeeps =
     (p : Place) (handed new entered later : Told (List ℕ)) → LinkKeeps handed new p.link entered → p.coming ≡ then_told entered later →
     IsShortOf (in_place (record { waiting = then_told p.waiting handed; link = new; coming = later })) (in_place p)
 
--- a run over any number of nodes: what the output got is a first part of what the stages make of the bytes that were taken
 abbrev pub EachRunFlows : Type 0
 EachRunFlows =
     (taken : Told ℕ) (ms : List Member) (got : Told ℕ) → sees_known_chunks false (all_stages ms) ≡ true → Chained taken ms got →
@@ -98,7 +94,6 @@ EachInputIsOne =
     (w ≡ AsCut → through m m.start x ≡ then_told (piece p) (at_end m p.kept x.mark)) ×
     (verdict m m.start x.items x.mark ≡ or_else p.ending (end_verdict m p.kept x.mark))
 
--- and what each stage puts out is what is told of it without its machine
 abbrev pub EachOutputIsTold : Type 0
 EachOutputIsTold = (s : Stage) → IsTold s
 

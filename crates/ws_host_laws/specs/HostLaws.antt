@@ -36,26 +36,20 @@ pub record HasItsCalls (entries : List Entry) : Type 0 where
   pub untaken : AllEvents (IsItsCall (called entries)) (run entries empty).promises.events
   pub grows : (more : List Entry) → (rest : List HostCall) × (called (entries ++ more) ≡ called entries ++ rest)
 
--- in every run
 abbrev pub EachEventIsItsCall : Type 0
 EachEventIsItsCall = (entries : List Entry) → HasItsCalls entries
 
--- in every run, the host settled the close algorithm of each writable stream of its own well that is closed
 abbrev pub EachCloseWasSettled : Type 0
 EachCloseWasSettled =
     (entries : List Entry) (j : StreamId) → owner_at j (run entries empty) ≡ Host → has_writable j (run entries empty) ≡ true → (writable_at j (run entries empty)).state ≡ Closed
     → WasSettledWell entries (Close j)
 
--- in every run, where the next job is the reaction of a transform stream of the host's to its flush algorithm, after a fulfilment: the host was
--- called to flush it, and settled the promise of that call well
 abbrev pub EachFlushWasSettled : Type 0
 EachFlushWasSettled =
     (entries : List Entry) (t : TransformId) (p : PromiseId) (v : Plain) (derived : Option PromiseId)
     → let s : Slots = run entries empty in (transform_at t s).kind ≡ HostKind → next_job s.promises ≡ Some (Reaction (TransformFlushed t p) (Ok v) derived)
     → WasSettledWell entries (Flush (transform_at t s).readable)
 
--- in every run, of each writable stream of the host: the host settled each of its writes well that ended well. The writes that ended well are the first of the
--- calls of its write algorithm
 abbrev pub EachWriteWasSettled : Type 0
 EachWriteWasSettled = (entries : List Entry) (j : StreamId) (n : ℕ) → owner_at j (run entries empty) ≡ Host → n < (run_writes j entries empty).fulfilled → WriteWasSettledWell entries j n
 
@@ -80,16 +74,12 @@ pub record IsClosedWell (entries : List Entry) (j : StreamId) : Type 0 where
   pub closed : (writable_at j (run entries empty)).state ≡ Closed
   pub settled : owner_at j (run entries empty) ≡ Host → WasSettledWell entries (Close j)
 
--- in every run, of a pipe without preventClose whose destination was writable and not closing when it began: where it ended without an error, its
--- destination is closed, and the host settled that close well, where the destination is the host's
 abbrev pub EachFulfilledPipeClosedItsDestination : Type 0
 EachFulfilledPipeClosedItsDestination =
     (before after : List Entry) (source dest : StreamId) (prevent : Prevent) (signal : Option SignalId)
     → let entries : List Entry = with_pipe before source dest prevent signal after in
     MakesAPipe before source dest prevent signal → (run_course (next_pipe before) entries empty).ended ≡ None ∷ [] → IsClosedWell entries dest
 
--- in every run, of a pipe without preventClose whose promise is fulfilled, whatever its destination was: the promise of each write that it made is
--- fulfilled with undefined
 abbrev pub EachWriteOfAFulfilledPipeSucceeded : Type 0
 EachWriteOfAFulfilledPipeSucceeded =
     (entries : List Entry) (p : PipeId) (x : pipe.Slots) (v : Plain) → slice_get (run entries empty).pipes p.0 ≡ Some x

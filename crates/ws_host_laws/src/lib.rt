@@ -24,8 +24,8 @@ pub fn each_close_was_settled()
 /// A pipe without `preventClose` that ended without an error, and whose destination was writable and not closing as
 /// it was made, has closed its destination.
 ///
-/// Its promise is fulfilled then. The host settled that close well, where the destination is the host's and not the
-/// half of a transform stream.
+/// Its promise is fulfilled then. Where the destination is a sink of the host's own, the host settled that close well;
+/// of the half of a transform stream and of the end of a port that isn't said.
 ///
 /// Of: pipes, host calls, closing must be propagated forward, finalize.
 pub fn each_fulfilled_pipe_closed_its_destination()

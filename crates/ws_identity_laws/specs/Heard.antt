@@ -28,8 +28,6 @@ pub record IsUnused (i : StreamId) (p : PipeId) (ms : List Middle) (k : StreamId
   pub written : heard_writes k (run_events xs empty) ≡ []
   pub closed : heard_closes k (run_events xs empty) ≡ 0
 
--- in any run that leaves such a way alone, whatever fails: what the host hears of the sink is what it enqueued at the source, or a first part of that,
--- in order; and where it hears the close, all of it
 abbrev pub EachWayIsHeard : Type 0
 EachWayIsHeard =
     (xs entries : List Entry) (i : StreamId) (p : PipeId) (ms : List Middle) (k : StreamId) → IsUnused i p ms k xs → all_leave_way i ms k entries ≡ true → IsHeard i k (xs ++ entries)

@@ -27,8 +27,6 @@ all_make (Called c ∷ xs) = makes c && all_make xs
 all_make (Worked ∷ xs) = false
 all_make (Heard ∷ xs) = false
 
--- where streams were only made, each that gives chunks and each that takes them may be linked; but for one with a byte controller that allocates
--- rooms
 abbrev pub EachNewPairIsFree : Type 0
 EachNewPairIsFree =
     (xs : List Entry) (i j : StreamId) → let s : Slots = run xs empty in all_make xs ≡ true → has_source i s ≡ true → (byte_at i s).auto ≡ 0 → has_writable j s ≡ true → IsAnyFree i j s
@@ -70,7 +68,6 @@ pub record MayLead (i : StreamId) (ms : List Middle) (k : StreamId) (xs : List E
   pub numbered : IsNumbered 0 ms
   pub apart : all_apart i ms k ≡ true
 
--- the pipes make a way, on which nothing lies
 abbrev pub EachWayOpens : Type 0
 EachWayOpens =
     (xs : List Entry) (i k : StreamId) (ms : List Middle) (prevent : Prevent) → MayLead i ms k xs → IsUnused i (record { 0 = 0 }) ms k (xs ++ pipes_of i ms k prevent)

@@ -54,19 +54,13 @@ abbrev pub all_spare : StreamId → List Entry → Bool
 all_spare r [] = true
 all_spare r (x ∷ xs) = entry_spares r x && all_spare r xs
 
--- over a run, what its readable half took in, followed by what is in it then, is, or is cut short of, what was in it before, followed by what its
--- writable half acted on
 pub record PassesOn (t : TransformId) (w r : StreamId) (xs entries : List Entry) : Type 0 where
   pub identity : IsIdentity t w r (run entries (run xs empty))
   pub short : IsShortOf (then_told (run_takes r entries (run xs empty)) (lies_in w r (xs ++ entries))) (then_told (lies_in w r xs) (run_acts w entries (run xs empty)))
 
--- in any run in which the host itself puts nothing into the readable half
 abbrev pub EachIdentityPasses : Type 0
 EachIdentityPasses =
     (xs entries : List Entry) (t : TransformId) (w r : StreamId) → IsIdentity t w r (run xs empty) → all_spare r entries ≡ true → PassesOn t w r xs entries
-
--- and in any run at all: what it enqueues by itself is what its writable half acts on, as long as its readable half can take something, and then
--- no more
 
 abbrev pub run_enqueued : TransformId → List Entry → Slots → List Value
 run_enqueued t xs s = over [] ◌++◌ (step_enqueued t) xs s
@@ -101,13 +95,10 @@ abbrev pub all_leave_way : StreamId → List Middle → StreamId → List Entry 
 all_leave_way i [] k entries = all_leave i k entries
 all_leave_way i (m ∷ ms) k entries = all_leave i m.writable entries && (all_spare m.readable entries && all_leave_way m.readable ms k entries)
 
--- over a run, what the destination acted on, followed by what lies on the way then, is, or is cut short of, what lay on it before, followed by
--- what the source took in
 pub record PassesWay (i : StreamId) (p : PipeId) (ms : List Middle) (k : StreamId) (xs entries : List Entry) : Type 0 where
   pub way : IsWay i p ms k (run entries (run xs empty))
   pub short : IsShortOf (then_told (run_acts k entries (run xs empty)) (lies_along i p ms k (xs ++ entries))) (then_told (lies_along i p ms k xs) (run_takes i entries (run xs empty)))
 
--- from any way on, in any run that leaves it so: it stays a way, and loses, doubles and mixes nothing, unless it says that it lost
 abbrev pub EachWayPasses : Type 0
 EachWayPasses =
     (xs entries : List Entry) (i : StreamId) (p : PipeId) (ms : List Middle) (k : StreamId) → IsWay i p ms k (run xs empty) → all_leave_way i ms k entries ≡ true

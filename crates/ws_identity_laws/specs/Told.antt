@@ -8,20 +8,15 @@ use Rattle.ws_steps.specs.WritableHistory.{run_writes}
 use Rattle.ws_flow.specs.Told.{told, then_told}
 use Rattle.ws_identity_laws.specs.Passing.{ending, run_acts, run_takes}
 
--- after any run, what a stream acts on in another is what its history tells of that: the chunks that it handed on, and whether its close algorithm
--- was performed. It hands nothing on after that
 abbrev pub EachActIsTold : Type 0
 EachActIsTold =
     (xs entries : List Entry) (j : StreamId) → let s : Slots = run xs empty in
     then_told (told [] (ending (run_writes j xs empty).closes)) (run_acts j entries s)
     ≡ told (run_writes j entries s).acted (ending ((run_writes j xs empty).closes + (run_writes j entries s).closes))
 
--- and over any run the chunks that a stream takes in are those that entered it, where it has no byte controller: the history of a default controller
--- tells nothing of a byte stream
 abbrev pub EachTakeIsTold : Type 0
 EachTakeIsTold =
     (s : Slots) (entries : List Entry) (i : StreamId) → has_byte i (run entries s) ≡ false → (run_takes i entries s).items ≡ (run_flow i entries s).entered
 
--- those that a byte stream takes in are the values of the calls that enqueue into it and are answered Done, in their order
 abbrev pub EachTakeOfBytesIsTold : Type 0
 EachTakeOfBytesIsTold = (s : Slots) (entries : List Entry) (i : StreamId) → has_byte i s ≡ true → (run_takes i entries s).items ≡ accepted i entries s

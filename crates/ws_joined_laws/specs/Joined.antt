@@ -89,13 +89,11 @@ pub record JoinedEnds (taken : Told ℕ) (ns : List Node) (got : Told ℕ) (last
 abbrev pub EachJoinedRunEnds : Type 0
 EachJoinedRunEnds = (taken : Told ℕ) (ns : List Node) (got : Told ℕ) (last : List Plain) → IsJoined taken ns got last → JoinedEnds taken ns got last
 
--- what came into a node was closed, each of its stages ended fine, and what it told is all that they make of it
 pub record TellsAll (m : Member) (came went : Told (List ℕ)) : Type 0 where
   pub ended : came.mark ≡ Closed
   pub fine : (j : ℕ) → ending (machines m.stages) j came ≡ Fine
   pub all : went ≡ all_through (machines m.stages) came
 
--- so it is where a node sent a close; and, with what waits behind all that it sent, where a close waits there
 abbrev pub EachNodeTells : Type 0
 EachNodeTells =
     (m : Member) (came went : Told (List ℕ)) → Flows (machines m.stages) came m.parts (then_told went m.behind)

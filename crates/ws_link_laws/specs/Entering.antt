@@ -52,8 +52,6 @@ effect_lets i _ s = silence
 abbrev pub step_lets : StreamId → Slots → Entry → Told Value
 step_lets i s x = in_step silence then_told (effect_lets i) s x
 
--- in every run a job lets nothing into a source, unless it is the reaction to the flush algorithm of its transform stream, which went well:
--- then nothing or its end
 abbrev pub EachJobLetsIn : Type 0
 EachJobLetsIn =
     (entries : List Entry) (i : StreamId) → let s : Slots = run entries empty in has_source i s ≡ true → IsHosts s (owner_at i s)

@@ -52,28 +52,22 @@ abbrev pub run_enters : StreamId → List Entry → Slots → Told Value
 run_enters i [] s = silence
 run_enters i (x ∷ xs) s = then_told (entry_enters i s x) (run_enters i xs (step s x))
 
--- over any run that leaves the link alone, what the host heard of, followed by what is behind it then, is, or is cut short of, what was
--- behind it before, followed by what entered
 pub record KeepsLink (i j : StreamId) (p : PipeId) (s : Slots) (entries : List Entry) : Type 0 where
   pub link : IsLink i j p (run entries s)
   pub short : IsShortOf (then_told (run_heard j entries s) (behind i j p (run entries s))) (then_told (behind i j p s) (run_enters i entries s))
 
--- from any link on, in any run that leaves it alone: it stays a link, and loses, doubles and mixes nothing, unless it says that it lost
 abbrev pub EachLinkKeeps : Type 0
 EachLinkKeeps =
     (i j : StreamId) (p : PipeId) (s : Slots) (entries : List Entry) → IsLink i j p s → all_leave i j entries ≡ true → KeepsLink i j p s entries
 
--- a new pipe is a link, and behind it is what was in its source, or a first part of that which says so
 pub record BeginsLink (i j : StreamId) (p : PipeId) (s z : Slots) : Type 0 where
   pub link : IsLink i j p z
   pub short : IsShortOf (behind i j p z) (then_told (unheard (ear_at j s) s.promises.events) (then_told (in_sink (writable_at j s)) (in_source (source_at i s))))
 
--- a pipe between two free streams makes them a link, whatever its options and its signal
 abbrev pub EachLinkBegins : Type 0
 EachLinkBegins =
     (i j : StreamId) (prevent : Prevent) (signal : Option SignalId) (s : Slots) → IsFree i j s → IsThere signal s
     → BeginsLink i j (record { 0 = length s.pipes }) s (after_call (Pipe i j prevent signal) s)
 
--- and two streams that may be linked stay so in any run that leaves them alone
 abbrev pub EachFreePairStays : Type 0
 EachFreePairStays = (i j : StreamId) (s : Slots) (entries : List Entry) → IsFree i j s → all_leave i j entries ≡ true → IsFree i j (run entries s)

@@ -51,12 +51,10 @@ pub record KeepsRoom (i j : StreamId) (p : PipeId) (s : Slots) : Type 0 where
   pub room : HasRoom j p s
   pub one : taken_places i j p s ≤ 1
 
--- in any run that leaves a link with room alone, at most one chunk is between the source's queue and the end of a write
 abbrev pub EachLinkHasRoom : Type 0
 EachLinkHasRoom =
     (i j : StreamId) (p : PipeId) (s : Slots) (entries : List Entry) → IsLink i j p s → HasRoom j p s → all_leave i j entries ≡ true → KeepsRoom i j p (run entries s)
 
--- and a pipe between free streams has that room, where the destination has this mark and this size
 abbrev pub EachLinkBeginsWithRoom : Type 0
 EachLinkBeginsWithRoom =
     (i j : StreamId) (prevent : Prevent) (signal : Option SignalId) (s : Slots) → IsFree i j s → IsThere signal s → (writable_at j s).hwm ≡ 1 → (writable_at j s).size_by ≡ Count

@@ -27,7 +27,6 @@ use Rattle.ws_pipe_laws.specs.PipeHistory.{is_over}
 use Rattle.ws_pipe_laws.specs.PipeReads.{one_if, held_values, in_streams}
 use Rattle.ws_lock_laws.specs.Locks.{Side, Reading, end_of, holders, is_locked}
 
--- in every run, of each stream: where a readable stream has a reader, or a writable stream a writer, one holder names it; and else none does
 abbrev pub EachLockHasOneHolder : Type 0
 EachLockHasOneHolder =
     (entries : List Entry) (d : Side) (i : StreamId) → let s : Slots = run entries empty in holders d i s ≡ one_if (is_locked d i s)
@@ -70,8 +69,7 @@ abbrev pub all_spare : StreamId → StreamId → List Effect → Bool
 all_spare source dest [] = true
 all_spare source dest (e ∷ es) = spares source dest e && all_spare source dest es
 
--- Both ends of a pipe are locked. No reader of either kind has its source, and no writer its destination. And no call of the host, whichever it is, begins
--- with a read, a cancel or a release of its source, or with a write, a close, an abort or a release of its destination, or locks one of them
+-- a pipe has its two ends
 pub record Owns (s : Slots) (x : pipe.Slots) : Type 0 where
   pub locked : (d : Side) → is_locked d (end_of d x) s ≡ true
   pub no_reader : (l : LockId) (closed : PromiseId) → lock_at l s ≢ Some (Reader (Some x.source) closed)
@@ -79,31 +77,26 @@ pub record Owns (s : Slots) (x : pipe.Slots) : Type 0 where
   pub no_writer : (l : LockId) → lock_at l s ≢ Some (Writer x.dest)
   pub calls : (c : Call) → all_spare x.source x.dest (begin c s).done.caused ≡ true
 
--- in every run, of each pipe that isn't over
 abbrev pub EachPipeOwnsItsEnds : Type 0
 EachPipeOwnsItsEnds =
     (entries : List Entry) (p : PipeId) → let s : Slots = run entries empty in is_over (pipe_at p s).phase ≡ false → Owns s (pipe_at p s)
 
--- in every run, two pipes that aren't over have different sources and different destinations
 abbrev pub NoTwoPipesShareAnEnd : Type 0
 NoTwoPipesShareAnEnd =
     (entries : List Entry) (p q : PipeId) → let s : Slots = run entries empty in p ≢ q → is_over (pipe_at p s).phase ≡ false → is_over (pipe_at q s).phase ≡ false
     → (d : Side) → end_of d (pipe_at p s) ≢ end_of d (pipe_at q s)
 
--- in every run, at the source of a pipe that isn't over no read waits but the pipe's own
 abbrev pub EachSourceIsReadByItsPipe : Type 0
 EachSourceIsReadByItsPipe =
     (entries : List Entry) (p : PipeId) → let s : Slots = run entries empty in let x : pipe.Slots = pipe_at p s in
     is_over x.phase ≡ false → All (λ r. r ≡ PipeRequest p) (source_at x.source s).requests
 
--- in every run, where a pipe is reading, one read of it waits, or it holds the chunk of one; and where it isn't, none waits, and it holds none
 abbrev pub EachReadingHasOneRead : Type 0
 EachReadingHasOneRead =
     (entries : List Entry) (p : PipeId) → let s : Slots = run entries empty in
     in_streams p s.streams + length (held_values (pipe_at p s).held) ≡ one_if (pipe_at p s).reading
 
--- The source of a tee is a readable stream with a default controller, and locked. No reader of the host has it, no call of the host begins with a
--- read, a cancel or a release of it, or locks it, and no read waits there but the tee's own
+-- a tee has its source
 pub record OwnsSource (s : Slots) (t : TeeId) (x : tee.Slots) : Type 0 where
   pub default : has_readable x.source s ≡ true
   pub locked : is_locked Reading x.source s ≡ true
@@ -112,7 +105,6 @@ pub record OwnsSource (s : Slots) (t : TeeId) (x : tee.Slots) : Type 0 where
   pub calls : (c : Call) → all_spare x.source (record { 0 = most_streams }) (begin c s).done.caused ≡ true
   pub requests : All (λ r. r ≡ TeeRequest t) (source_at x.source s).requests
 
--- in every run, of each tee, for good
 abbrev pub EachTeeOwnsItsSource : Type 0
 EachTeeOwnsItsSource =
     (entries : List Entry) (t : TeeId) → let s : Slots = run entries empty in has_tee t s ≡ true → OwnsSource s t (tee_at t s)

@@ -53,17 +53,14 @@ pub record AsksInTurn (i : StreamId) (c : PortId) (s : Slots) (entries : List En
   pub pulls : pulls_in (posted_in c (run_events entries s)) + may_ask (readable_at i (run entries s))
       ≤ pulls_in (posted_in c s.promises.events) + may_ask (readable_at i s) + run_brought c entries
 
--- in any run that leaves a link alone of which it is the source
 abbrev pub EachEndAsksInTurn : Type 0
 EachEndAsksInTurn =
     (i j : StreamId) (p : PipeId) (c : PortId) (s : Slots) (entries : List Entry) → IsLink i j p s → IsAsking i c s → all_leave i j entries ≡ true → AsksInTurn i c s entries
 
--- where it is one, it is one in every run
 abbrev pub EachEndStaysAsking : Type 0
 EachEndStaysAsking =
     (i : StreamId) (c : PortId) (before entries : List Entry) → has_source i (run before empty) ≡ true → IsAsking i c (run before empty) → IsAsking i c (run entries (run before empty))
 
--- and from the opening on of a chain of which it is the source, it posted no more pulls than chunks came, and one
 abbrev pub EachNodeAsksInTurn : Type 0
 EachNodeAsksInTurn =
     (target : Target) (n : ℕ) (signalled : Bool) (entries : List Entry) → 2 * n + 2 ≤ most_streams → AreNodes entries

@@ -65,7 +65,6 @@ pub record IsAhead (read : ℕ) (posted waiting : List (List ℕ)) (ahead pulls 
   pub once : errors ≤ 1
   pub last : length posted + length waiting ≡ pulls + 1 → ahead ≡ 0
 
--- what it read is longer than what it posted by at most 4,096 bytes times (the pulls, plus 1, less the chunks that it posted)
 abbrev pub EachHeadReadsNear : Type 0
 EachHeadReadsNear =
     (read : ℕ) (posted waiting : List (List ℕ)) (ahead pulls errors : ℕ) → IsAhead read posted waiting ahead pulls errors

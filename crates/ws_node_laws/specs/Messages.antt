@@ -51,12 +51,10 @@ AreFedByPort (Called c ∷ xs) = IsFedByPort c × AreFedByPort xs
 AreFedByPort (Worked ∷ xs) = AreFedByPort xs
 AreFedByPort (Heard ∷ xs) = AreFedByPort xs
 
--- what is heard of the last link is what the messages tell that its port posted and the host took
 abbrev pub EachChainTellsByPosts : Type 0
 EachChainTellsByPosts =
     (origin : Origin) (n : ℕ) (xs : List Entry) (s : Slots) → heard_from origin ToPort n n xs s ≡ row_told (posted_in (sink_port origin) (taken_events xs s))
 
--- and what is brought to the first is what the messages tell that were delivered
 abbrev pub EachChainIsBroughtByMessages : Type 0
 EachChainIsBroughtByMessages = (xs : List Entry) (s : Slots) → AreFedByPort xs → brought_to FromPort 0 xs s ≡ row_told (delivered_to source_port xs)
 
@@ -88,6 +86,5 @@ lost_behind (Chunk v ∷ ms) = lost_behind ms
 lost_behind (Close ∷ ms) = lost_behind ms
 lost_behind (Error r ∷ ms) = told [] Lost
 
--- so a row tells in bytes what it tells in values, and that all behind an error is lost
 abbrev pub EachRowIsTold : Type 0
 EachRowIsTold = (ms : List Message) → all_bytes ms ≡ true → ends_last ms ≡ true → told_by ms ≡ then_told (in_bytes (row_told ms)) (lost_behind ms)

@@ -10,7 +10,7 @@ use Rattle.ws_chain_laws.specs.Opening.{chained}
 use Rattle.ws_chain_laws.specs.Runs.{AreNodes}
 use Rattle.ws_node_laws.specs.Messages.{delivered_to}
 
--- down: chunks, a close and errors, nothing behind an end, and no more chunks than pulls and errors came
+-- by what it posted, and what was delivered to it
 pub record SendsDown (posted came : List Message) : Type 0 where
   pub credit : length (chunks_in posted) ≤ asks_in came
   pub kinds : All (λ m. goes_down m ≡ true) posted
@@ -21,7 +21,6 @@ pub record SendsUp (posted : List Message) : Type 0 where
   pub kinds : All (λ m. goes_up m ≡ true) posted
   pub last : ends_last posted ≡ true
 
--- from the opening of a chain on, in any run of a node
 abbrev pub EachNodeSendsDown : Type 0
 EachNodeSendsDown =
     (origin : Origin) (n : ℕ) (signalled : Bool) (xs : List Entry) → 2 * n + 2 ≤ most_streams → AreNodes xs

@@ -177,7 +177,6 @@ pub data Move (me : PipeId) (ends : Ends) (operation : PipeOperation) (x : Slots
   MoveFinishes : (o : Result Plain Plain) → operation ≡ ActionSettled o → b.slots ≡ record x { phase = Over }
       → b.out ≡ record { promises = t; effects = end_effects me x (error_after x.error o) } → Move me ends operation x t b
 
--- What an operation of a pipe does to its phase, whatever it finds
 abbrev pub EachPipeMoves : Type 0
 EachPipeMoves = (p : PipeId) (ends : Ends) (operation : PipeOperation) (x : Slots) (t : Table) → Move p ends operation x t (pipe_operation p ends operation (starting x t))
 
@@ -189,7 +188,6 @@ pub record IsSamePipe (x y : Slots) : Type 0 where
   pub prevent : y.prevent ≡ x.prevent
   pub signal : y.signal ≡ x.signal
 
--- An operation of a pipe keeps its streams, its promise, its signal, and what it isn't to do, whatever it finds
 abbrev pub EachPipeKeepsItsEnds : Type 0
 EachPipeKeepsItsEnds =
     (p : PipeId) (ends : Ends) (operation : PipeOperation) (x : Slots) (t : Table) → IsSamePipe x (pipe_operation p ends operation (starting x t)).slots
@@ -206,7 +204,6 @@ pub record StaysThere (p : PipeId) (s : realm.Slots) : Type 0 where
       → slice_get (begin c s).done.slots.pipes p.0 ≡ Some x → IsThere x (slice_get (step s (Called c)).pipes p.0)
   pub in_run : (entries : List Entry) (x : Slots) → slice_get s.pipes p.0 ≡ Some x → IsThere x (slice_get (run entries s).pipes p.0)
 
--- From the call that made it, a pipe stays there and the same, over any run from any slots
 abbrev pub EachPipeStays : Type 0
 EachPipeStays = (p : PipeId) (s : realm.Slots) → StaysThere p s
 
@@ -251,6 +248,5 @@ pub data MakesPipes (c : Call) (s : realm.Slots) (b : Begun) : Type 0 where
   SendsWritable : (i : StreamId) (y : Slots) → c ≡ SendCall i → realm.has_source i s ≡ false → realm.has_writable i s ≡ true → b.done.slots.pipes ≡ s.pipes ++ y ∷ []
       → IsSentPipe (new_end s) i s b.reply y → MakesPipes c s b
 
--- Only a pipeTo and the sending of a stream make a pipe, and one that flows, whatever they find
 abbrev pub EachPipeBeginsFlowing : Type 0
 EachPipeBeginsFlowing = (c : Call) (s : realm.Slots) → MakesPipes c s (begin c s)

@@ -53,14 +53,12 @@ pub record MayStart (ends : Ends) (operation : PipeOperation) (x y : Slots) : Ty
   pub stays : y.phase ≡ Flowing
   pub reads : y.reading ≡ true
 
--- An operation of a pipe starts no read, or one that it may start, whatever it finds
 abbrev pub EachReadMayStart : Type 0
 EachReadMayStart =
     (p : PipeId) (ends : Ends) (operation : PipeOperation) (x : Slots) (t : Table)
     → let b : Acts = pipe_operation p ends operation (starting x t) in
     (reads_started p b.out.effects ≡ 0) ⊎ ((reads_started p b.out.effects ≡ 1) × MayStart ends operation x b.slots)
 
--- No effect but an operation of the pipe starts a read of it, whatever it finds
 abbrev pub NoOtherStartsARead : Type 0
 NoOtherStartsARead =
     (p : PipeId) (e : Effect) (s : realm.Slots) → ((operation : PipeOperation) → e ≢ OnPipe p operation) → reads_started p (row e s).caused ≡ 0
@@ -70,7 +68,6 @@ pub record BeginsWithoutARead (p : PipeId) (s : realm.Slots) : Type 0 where
   pub call : (c : Call) → reads_started p (begin c s).done.caused ≡ 0
   pub job : reads_started p (begin_job s).caused ≡ 0
 
--- Neither a call nor a job begins with a read of a pipe, whatever it finds
 abbrev pub NoneBeginsWithARead : Type 0
 NoneBeginsWithARead = (p : PipeId) (s : realm.Slots) → BeginsWithoutARead p s
 
@@ -93,9 +90,6 @@ abbrev pub IsCourseAt : Course → Option Slots → Type 0
 IsCourseAt h None = h ≡ no_course
 IsCourseAt h (Some x) = IsCourse h x
 
--- In every run, the course of a pipe is that of its phase. So it leaves flowing at most once, performs at most one action, which is the one of
--- its shutdown, and ends at most once; without an action it ends with the error of its shutdown, and after one with the action's reason
--- where the action was rejected, and else with the error of the shutdown
 abbrev pub EachPipeHasACourse : Type 0
 EachPipeHasACourse =
     (entries : List Entry) (p : PipeId) → IsCourseAt (run_course p entries realm.empty) (slice_get (run entries realm.empty).pipes p.0)
@@ -108,8 +102,6 @@ effect_started p e s = reads_started p (row e s).caused
 abbrev pub step_started : PipeId → realm.Slots → Entry → ℕ
 step_started p s x = in_step 0 ◌+◌ (effect_started p) s x
 
--- From the step in which a pipe leaves flowing, no read of it starts: a step that ends with the pipe not flowing starts none, whatever it
--- finds
 abbrev pub NoReadStartsOnceShut : Type 0
 NoReadStartsOnceShut =
     (s : realm.Slots) (x : Entry) (p : PipeId) → (realm.pipe_at p (step s x)).phase ≢ Flowing → step_started p s x ≡ 0
@@ -130,7 +122,6 @@ pub record IsPassing (h : Through) (x : Slots) : Type 0 where
   pub live : is_live x.phase ≡ true → h.dropped ≡ []
   pub one : length h.dropped + one_if x.reading ≤ 1
 
--- In every run, what a pipe read is what it passed on, then what it dropped, then what it holds
 abbrev pub EachPipePasses : Type 0
 EachPipePasses = (entries : List Entry) (p : PipeId) → IsPassing (run_through p entries realm.empty) (realm.pipe_at p (run entries realm.empty))
 
@@ -140,7 +131,6 @@ pub record IsShorterByOne (passed read : List Value) : Type 0 where
   pub front : passed ++ rest ≡ read
   pub one : length rest ≤ 1
 
--- In every run, the chunks that a pipe passed on are a first part of those that it read, and shorter by at most one
 abbrev pub EachPipePassesAFront : Type 0
 EachPipePassesAFront =
     (entries : List Entry) (p : PipeId) → let h : Through = run_through p entries realm.empty in IsShorterByOne h.passed h.read
@@ -160,7 +150,6 @@ abbrev pub in_streams : PipeId → List realm.Stream → ℕ
 in_streams p [] = 0
 in_streams p (x ∷ xs) = in_stream p x + in_streams p xs
 
--- In every run, a read of a pipe waits, or it holds the chunk of one, only while it is reading, and only one does
 abbrev pub OneReadWaitsAtMost : Type 0
 OneReadWaitsAtMost =
     (entries : List Entry) (p : PipeId) → let s : realm.Slots = run entries realm.empty in
@@ -188,14 +177,11 @@ pub record IsWritten (operation : PipeOperation) (x : Slots) (t : Table) (es : L
   pub promises : promises_written es ≡ operation_promises operation x (next_id t)
   pub dest : are_written_to x.dest es ≡ true
 
--- What an operation of a pipe passes on are the chunks of the writes that it causes, each to its destination and with a new promise
 abbrev pub EachPassIsAWrite : Type 0
 EachPassIsAWrite =
     (p : PipeId) (ends : Ends) (operation : PipeOperation) (x : Slots) (t : Table)
     → IsWritten operation x t (pipe_operation p ends operation (starting x t)).out.effects
 
--- In every run, in a step that finds the pipe flowing or waiting: the chunk that it held and what it read are what it passed on and the chunk
--- that it holds afterwards, in this order
 abbrev pub EachStepPasses : Type 0
 EachStepPasses =
     (entries : List Entry) (x : Entry) (p : PipeId)
@@ -204,7 +190,6 @@ EachStepPasses =
     is_live (realm.pipe_at p s).phase ≡ true
     → held_values (realm.pipe_at p s).held ++ h.read ≡ h.passed ++ held_values (realm.pipe_at p (step s x)).held
 
--- In every run, what a pipe read is what its source gave to it, and no other stream gave it anything
 abbrev pub EachPipeReadsItsSource : Type 0
 EachPipeReadsItsSource =
     (entries : List Entry) (p : PipeId) (i : StreamId)
@@ -221,14 +206,11 @@ pub record IsStill (p : PipeId) (s : realm.Slots) (x : Entry) : Type 0 where
   pub passed : (step_through p s x).passed ≡ []
   pub started : step_started p s x ≡ 0
 
--- In a step that finds a pipe whose action began, or which is over, it passes nothing on and starts no read, whatever it finds
 abbrev pub NonePassesOnceActing : Type 0
 NonePassesOnceActing =
     (s : realm.Slots) (x : Entry) (p : PipeId) (y : Slots)
     → slice_get s.pipes p.0 ≡ Some y → is_live y.phase ≡ false → IsStill p s x
 
--- Two histories agree at each write of a pipe, whatever it finds: what is told of the pipe as passed on is what is told of its destination as
--- written by it, unless the destination refuses it; and of no other stream is it told
 abbrev pub EachPassIsAppended : Type 0
 EachPassIsAppended =
     (s : realm.Slots) (p : PipeId) (i : StreamId)

@@ -34,7 +34,6 @@ has_write p [] = false
 has_write p (MicroJob (PipeWrite q) ∷ js) = nat_eq p.0 q.0 || has_write p js
 has_write p (j ∷ js) = has_write p js
 
--- In every run, a chunk that a pipe holds is about to be written, or dropped: the microtask is queued
 abbrev pub EachHeldChunkIsQueued : Type 0
 EachHeldChunkIsQueued =
     (entries : List Entry) (p : PipeId) (v : Value) → let s : realm.Slots = run entries realm.empty in
@@ -73,8 +72,6 @@ abbrev pub of_action : PipeId → Step → ℕ
 of_action p (PipeActed q) = one_if (nat_eq p.0 q.0)
 of_action p _ = 0
 
--- In every run, the reactions to a pipe's writes that are outstanding are at most its writes that haven't settled, and the one to its action is at most
--- one, and only while the action is under way
 pub record IsOwed (p : PipeId) (s : realm.Slots) : Type 0 where
   pub writes : outstanding (of_write p) s.promises ≤ (realm.pipe_at p s).unsettled
   pub action : outstanding (of_action p) s.promises ≤ one_if (is_acting (realm.pipe_at p s).phase)
@@ -92,7 +89,6 @@ abbrev pub AllSince : (List Moment → Moment → Type 0) → List Moment → Li
 AllSince P past [] = Unit {0}
 AllSince P past (m ∷ ms) = P past m × AllSince P (past ++ m ∷ []) ms
 
--- In every run, a pipe hears that its action has settled only while that is under way
 abbrev pub EachActionSettlesWhileActing : Type 0
 EachActionSettlesWhileActing =
     (entries : List Entry) (p : PipeId)
@@ -115,8 +111,6 @@ pub record HasNothingLeft (p : PipeId) (s : realm.Slots) : Type 0 where
   pub unsettled : (realm.pipe_at p s).unsettled ≡ 0
   pub reactions : outstanding (of_write p) s.promises ≡ 0
 
--- In every run, a pipe that waited, or whose destination was writable and not closing, begins its action, or ends without one, only where no
--- chunk is held and no reaction to a write is outstanding
 abbrev pub EachPipeActsInOrder : Type 0
 EachPipeActsInOrder =
     (entries : List Entry) (p : PipeId) → AllMoments (λ m. BeginsToAct p m → HasNothingLeft p (leaves m)) (run_moments entries realm.empty)
@@ -125,8 +119,6 @@ abbrev pub AllSettled : Table → List PromiseId → Type 0
 AllSettled t [] = Unit {0}
 AllSettled t (d ∷ ds) = (is_pending_at d t ≡ false) × AllSettled t ds
 
--- In every run, a pipe that waited, or whose destination was writable and not closing, begins its action, or ends without one, only once the
--- promise of every write that it made has settled
 abbrev pub NoneActsWhileAWriteIsOpen : Type 0
 NoneActsWhileAWriteIsOpen =
     (entries : List Entry) (p : PipeId)
@@ -137,14 +129,12 @@ abbrev pub tells_done : Option PromiseId → List Effect
 tells_done None = []
 tells_done (Some d) = Settle d (Ok Undefined) ∷ []
 
--- The job of a reaction of pipe p to its action, or to a part of it, begins with telling the pipe the outcome that the reaction was given
 pub record IsHeard (p : PipeId) (outcome : Result Plain Plain) (derived : Option PromiseId) (js : List Job) (s : realm.Slots) : Type 0 where
   pub action : s.promises.jobs ≡ ReactionJob (PipeActed p) outcome derived ∷ js
       → (begin_job s).caused ≡ OnPipe p (ActionSettled outcome) ∷ tells_done derived
   pub part : s.promises.jobs ≡ ReactionJob (PipePart p) outcome derived ∷ js
       → (begin_job s).caused ≡ OnPipe p (PartSettled outcome) ∷ tells_done derived
 
--- The outcome with which a pipe's action, or a part of it, is said to have settled is that of the reaction to its promise
 abbrev pub EachActionIsHeard : Type 0
 EachActionIsHeard =
     (p : PipeId) (outcome : Result Plain Plain) (derived : Option PromiseId) (js : List Job) (s : realm.Slots) → IsHeard p outcome derived js s

@@ -22,16 +22,13 @@ pub record IsTriggered (a : SignalId) (r : Plain) (s : realm.Slots) : Type 0 whe
   pub later : (e : Plain) → (realm.signal_at a s).reason ≡ Some e
       → ((row (OnSignal a (Trigger r)) s).caused ≡ []) × (realm.signal_at a (row (OnSignal a (Trigger r)) s).slots ≡ realm.signal_at a s)
 
--- A trigger of a signal puts an abort of each of its pipes, in order, the first time, and the reason is kept; and does nothing afterwards
 abbrev pub EachTriggerAbortsInOrder : Type 0
 EachTriggerAbortsInOrder = (a : SignalId) (r : Plain) (s : realm.Slots) → IsTriggered a r s
 
--- Over any run from any slots, a signal keeps the reason that it has
 abbrev pub EachReasonStays : Type 0
 EachReasonStays =
     (entries : List Entry) (s : realm.Slots) (a : SignalId) (e : Plain) → (realm.signal_at a s).reason ≡ Some e → (realm.signal_at a (run entries s)).reason ≡ Some e
 
--- In every run, the pipes of a signal are those that were added to it and not forgotten afterwards, in the order in which they were added
 abbrev pub EachSignalKeepsOrder : Type 0
 EachSignalKeepsOrder =
     (entries : List Entry) (a : SignalId)

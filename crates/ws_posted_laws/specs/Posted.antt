@@ -15,15 +15,12 @@ use Rattle.ws_steps.specs.Slots.{empty, has_port, port_at}
 use Rattle.ws_reason_laws.specs.Origins.{origins}
 use Rattle.ws_reason_laws.specs.Reasons.{NeedsTee}
 
--- In every run, each error that the port posted has such a reason
 abbrev pub EachPostedErrorHasAnOrigin : Type 0
 EachPostedErrorHasAnOrigin =
     (entries : List Entry) (c : PortId) (r : Plain) (before after : List Message) → NeedsTee r entries
     → has_port c (run entries empty) ≡ true → (port_at c (run entries empty)).side ≡ WritableSide
     → posted_in c (run_events entries empty) ≡ before ++ Error r ∷ after → Contains (origins entries) r
 
--- and where an error was delivered to it, each that it posted, before or after, has a reason of the run up to there. So it posts none because of
--- that error, nor because of anything later
 abbrev pub EachPostedErrorIsOlder : Type 0
 EachPostedErrorIsOlder =
     (past xs : List Entry) (c : PortId) (up r : Plain) (before after : List Message) → NeedsTee r past

@@ -31,8 +31,8 @@ pub enum Why {
     Spent,
 }
 
-/// A call that was refused, for want of memory or because the realm is spent. It is handed back (`call` is always
-/// there), with the cause.
+/// A refusal by `Realm::call`, for want of memory or because the realm is spent: the call, which is handed back (it is
+/// always there), and the cause.
 #[derive(Drop)]
 pub struct NoRoom {
     pub call: Option<Call>,

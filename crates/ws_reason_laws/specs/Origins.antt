@@ -98,8 +98,6 @@ pub record IsOpen (j : StreamId) (s : Slots) : Type 0 where
   pub closing : is_closing (writable_at j s) ≡ false
   pub closed : is_closed (writable_at j s).state ≡ false
 
--- In every run, whatever else the host does in it: a pipe that was made between two unlocked streams rejects its promise only with one of these;
--- or with a TypeError, where its destination was closing or closed
 abbrev pub EachReasonHasAnOrigin : Type 0
 EachReasonHasAnOrigin =
     (opening xs : List Entry) (i j : StreamId) (prevent : Prevent) (signal : Option SignalId) (q : PromiseId) (r : Plain)
@@ -107,7 +105,6 @@ EachReasonHasAnOrigin =
     AreUnlocked i j s → reply_to (Pipe i j prevent signal) s ≡ Promise q → (r ≡ type_error → IsOpen j s) → NeedsTee r entries
     → outcome_at (run entries empty).promises q ≡ Some (Rejected r) → Contains (origins entries) r
 
--- and so is the error that a stream has stored: a readable stream that is errored, and a writable stream that is erroring or errored
 pub record EachStoredErrorHasAnOrigin : Type 0 where
   pub readable : (entries : List Entry) (i : StreamId) → let s : Slots = run entries empty in
       NeedsTee (source_at i s).stored_error entries → (source_at i s).state ≡ Errored → Contains (origins entries) (source_at i s).stored_error

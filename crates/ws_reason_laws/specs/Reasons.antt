@@ -152,9 +152,6 @@ NeedsTee r entries = is_pair r ≡ true → (run entries empty).tees ≡ []
 abbrev pub NeedsPort : Plain → List Entry → Type 0
 NeedsPort r entries = r ≡ data_clone → (run entries empty).ports ≡ []
 
--- In every run, whatever else the host does in it: a pipe that was made between two such ends rejects its promise only with a reason that a
--- call of the run gave; but with a TypeError also where there is a transform stream, since the writable half of one that is terminated fails with
--- that, which no call gives, or where a call stored one in a byte stream
 abbrev pub EachReasonWasGiven : Type 0
 EachReasonWasGiven =
     (opening xs : List Entry) (i j : StreamId) (prevent : Prevent) (signal : Option SignalId) (q : PromiseId) (r : Plain)
@@ -163,8 +160,6 @@ EachReasonWasGiven =
     → (r ≡ type_error → BringsNothing entries) → NeedsTee r entries → NeedsPort r entries
     → outcome_at (run entries empty).promises q ≡ Some (Rejected r) → Contains (given entries) r
 
--- and never with that of a cancel alone, nor with a TypeError that no call gave, where there is no transform stream and no call stored one in a byte
--- stream: the reason with which the readable half of a transform stream is cancelled is the error of its writable half
 abbrev pub EachReasonWasAFailure : Type 0
 EachReasonWasAFailure =
     (opening xs : List Entry) (i j : StreamId) (prevent : Prevent) (signal : Option SignalId) (q : PromiseId) (r : Plain)
@@ -173,9 +168,6 @@ EachReasonWasAFailure =
     → (Contains (cancels entries) r → (run entries empty).transforms ≡ []) → (r ≡ type_error → BringsNothing entries) → NeedsTee r entries → NeedsPort r entries
     → outcome_at (run entries empty).promises q ≡ Some (Rejected r) → Contains (failures entries) r
 
--- in every run, the error that a stream has stored is the reason of a failure: of a readable stream that is errored, and of a writable stream that
--- is erroring or errored. Where there is a transform stream it may be a TypeError, or the reason of a cancel; and a TypeError where a call stored
--- one in a byte stream
 pub record EachStoredErrorWasAFailure : Type 0 where
   pub readable : (entries : List Entry) (i : StreamId) → let s : Slots = run entries empty in
       (Contains (cancels entries) (source_at i s).stored_error → s.transforms ≡ []) → ((source_at i s).stored_error ≡ type_error → BringsNothing entries)

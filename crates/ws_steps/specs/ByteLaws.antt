@@ -22,25 +22,19 @@ use Rattle.ws_steps.specs.ByteHistory.{ByteFlow, kept, step_bytes, run_bytes, ac
 abbrev pub AreFirstOf : List ℕ → List ℕ → Type 0
 AreFirstOf front whole = (rest : List ℕ) × (front ++ rest ≡ whole)
 
--- The order of a byte stream. What was given is the first part of what entered. While the stream is readable, what entered was given or is
--- kept, in this order: filled into the room of the first descriptor, and then queued. Once it is closed, what was given and what is kept is
--- the first part of what entered. Where it closed without a cancel and without a descriptor, all that entered was given
+-- the order of a byte stream
 pub record IsLawfulByteStream (h : ByteFlow) (x : byte.Slots) : Type 0 where
   pub front : AreFirstOf h.given h.entered
   pub readable : x.stream.state ≡ Readable → h.entered ≡ h.given ++ kept x
   pub closed : x.stream.state ≡ Closed → AreFirstOf (h.given ++ kept x) h.entered
   pub whole : h.cancelled ≡ false → h.left ≡ false → x.stream.state ≡ Closed → h.given ≡ h.entered
 
--- in every run each byte stream is lawful
 abbrev pub EachByteStreamIsLawful : Type 0
 EachByteStreamIsLawful =
     (entries : List Entry) (i : StreamId)
     → has_byte i (run entries empty) ≡ true → IsLawfulByteStream (run_bytes i entries empty) (byte_at i (run entries empty))
 
--- One step of a byte stream. Where it is readable before, and after it is readable or closed without a cancel, what was kept and what entered
--- is what is given and what is kept. Where it is closed before, what is given and what is kept is the first part of what was kept. In each
--- step what is given is the first part of what was kept and what entered. Nothing enters a stream that isn't readable before, and an errored
--- one gives nothing
+-- one step of a byte stream
 pub record IsByteStep (h : ByteFlow) (before after : byte.Slots) : Type 0 where
   pub readable : before.stream.state ≡ Readable → after.stream.state ≡ Readable → kept before ++ h.entered ≡ h.given ++ kept after
   pub closes : before.stream.state ≡ Readable → h.cancelled ≡ false → after.stream.state ≡ Closed → kept before ++ h.entered ≡ h.given ++ kept after
@@ -49,7 +43,6 @@ pub record IsByteStep (h : ByteFlow) (before after : byte.Slots) : Type 0 where
   pub entered : before.stream.state ≢ Readable → h.entered ≡ []
   pub errored : before.stream.state ≡ Errored → h.given ≡ []
 
--- each step of every run, of each byte stream; and a stream that a cancel closed gives nothing
 abbrev pub EachByteStep : Type 0
 EachByteStep =
     (entries : List Entry) (x : Entry) (i : StreamId) → let s : Slots = run entries empty in
@@ -57,7 +50,6 @@ EachByteStep =
     → IsByteStep (step_bytes i s x) (byte_at i s) (byte_at i (step s x))
     × ((run_bytes i entries empty).cancelled ≡ true → (step_bytes i s x).given ≡ [])
 
--- in every run, no operation is asked of a byte stream that isn't meant for it
 abbrev pub EachByteStreamIsMeant : Type 0
 EachByteStreamIsMeant = (entries : List Entry) (i : StreamId) → (byte_at i (run entries empty)).astray ≡ false
 
@@ -67,7 +59,6 @@ pub record FillRoom (room element least : ℕ) (b : List ℕ) : Type 0 where
   pub enough : least * element ≤ length b
   pub fits : length b ≤ room
 
--- in every run, a read into a room is given whole elements, and where it is finished with bytes it is finished with whole elements
 pub record EachRoomIsWhole : Type 0 where
   pub given : (before after : List Entry) (l : LockId) (room : List ℕ) (element least : ℕ) (p : PromiseId) (b : List ℕ)
       → let s : Slots = run before empty in let c : Call = ReadInto l room element least in
@@ -76,8 +67,6 @@ pub record EachRoomIsWhole : Type 0 where
       → let s : Slots = run before empty in let c : Call = ReadInto l room element least in
       reply_to c s ≡ Named p → outcome_at (run (Called c ∷ after) s).promises p ≡ Some (Finished (Bytes b)) → length b % element ≡ 0
 
--- in every run, what entered a byte stream is made of the bytes of the calls that enqueue into it and of those that respond to a request of
--- it, where they are answered Done, in the order of these calls
 abbrev pub EnteredBytesWereAccepted : Type 0
 EnteredBytesWereAccepted = (entries : List Entry) (i : StreamId) → (run_bytes i entries empty).entered ≡ accepted_bytes i entries empty
 
@@ -89,7 +78,6 @@ pub record IsErroredByClose (x : byte.Slots) : Type 0 where
   pub descriptors : x.descriptors ≡ []
   pub requests : x.stream.requests ≡ []
 
--- in every run, the close of a byte stream whose first descriptor has a part of an element throws a TypeError, and has errored the stream
 abbrev pub EachThrowingCloseErrs : Type 0
 EachThrowingCloseErrs =
     (entries : List Entry) (i : StreamId) → let s : Slots = run entries empty in errs (Finish i) s ≡ true

@@ -16,9 +16,7 @@ use Rattle.ws_steps.specs.WritableHistory.{Writes, run_writes}
 use Rattle.ws_steps.specs.PortHistory.{posted_in, run_taken, chunks_in, asks_in, has_end, ends_last, goes_up, goes_down}
 use Rattle.ws_steps.specs.Laws.{IsLawfulReadable, IsLawfulWritable}
 
--- A readable end of a port. What entered it are the chunks that were delivered while the port was entangled. It posts pulls and errors alone,
--- and nothing after an error. The port is entangled until a close or an error was delivered, or an error posted; until then the stream is
--- readable
+-- a readable end of a port, by what was delivered, what it posted, and its stream
 pub record IsReadableEnd (taken posted : List Message) (f : Flow) (r : readable.Slots) (x : cross.Slots) : Type 0 where
   pub lawful : IsLawfulReadable f r
   pub entered : f.entered ≡ chunks_in taken
@@ -27,8 +25,7 @@ pub record IsReadableEnd (taken posted : List Message) (f : Flow) (r : readable.
   pub live : x.live ≡ not (has_end taken || has_end posted)
   pub readable : x.live ≡ true → r.state ≡ Readable
 
--- A writable end of a port. What it acted on are the chunks that the port posted, and these are no more than the pulls and the errors that
--- were delivered. It posts chunks, a close and errors alone, and nothing after a close or an error. The port is entangled until then
+-- a writable end of a port, by what was delivered, what it posted, and its stream
 pub record IsWritableEnd (taken posted : List Message) (h : Writes) (w : writable.Slots) (x : cross.Slots) : Type 0 where
   pub lawful : IsLawfulWritable h w
   pub acted : h.acted ≡ chunks_in posted
@@ -37,7 +34,6 @@ pub record IsWritableEnd (taken posted : List Message) (h : Writes) (w : writabl
   pub last : ends_last posted ≡ true
   pub live : x.live ≡ not (has_end posted)
 
--- in every run, of each port
 abbrev pub EachReadableEndIsLawful : Type 0
 EachReadableEndIsLawful =
     (entries : List Entry) (c : PortId) → let s : Slots = run entries empty in let x : cross.Slots = port_at c s in
@@ -52,7 +48,6 @@ EachWritableEndIsLawful =
     → (has_writable x.stream s ≡ true) × ((owner_at x.stream s ≡ EndOf c)
     × IsWritableEnd (run_taken c entries empty) (posted_in c (run_events entries empty)) (run_writes x.stream entries empty) (writable_at x.stream s) x)
 
--- in every run, no call and no job posts more than one message by one port
 abbrev pub EachStepPostsOnce : Type 0
 EachStepPostsOnce =
     (entries : List Entry) (x : Entry) (c : PortId) → let s : Slots = run entries empty in

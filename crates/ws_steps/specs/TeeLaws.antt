@@ -24,15 +24,12 @@ abbrev pub IsHanded : Option Plain → List Value → List Value → Type 0
 IsHanded None handed entered = entered ≡ handed
 IsHanded (Some r) handed entered = IsPrefixOf entered handed
 
--- What the source gave was handed to the branches, in its order, but for the chunk that the tee holds
 pub record IsTeed (h : Teed) (f g : Flow) (x : tee.Slots) : Type 0 where
   pub handed : List Value
   pub given : handed ++ held_values x.held ≡ h.given
   pub first : IsHanded x.reason1 handed f.entered
   pub second : IsHanded x.reason2 handed g.entered
 
--- in every run, of each tee: from its making on, what its source gave, whoever asked, entered each branch that isn't cancelled, in this order,
--- but for the chunk that the tee holds; and nothing else did
 abbrev pub EachTeeHandsToBoth : Type 0
 EachTeeHandsToBoth =
     (entries : List Entry) (t : TeeId) → let s : Slots = run entries empty in let x : tee.Slots = tee_at t s in has_tee t s ≡ true
@@ -42,14 +39,11 @@ EachTeeHandsToBoth =
 abbrev pub cancels_of : TeeId → tee.Slots → List Plain
 cancels_of t x = if tee.is_wanted x then [] else Pair t ∷ []
 
--- in every run, of each tee: while a branch isn't cancelled, nobody has cancelled the source; and from the step on in which both are, it was
--- cancelled once, with the pair of the reasons
 abbrev pub EachSourceIsCancelledByBoth : Type 0
 EachSourceIsCancelledByBoth =
     (entries : List Entry) (t : TeeId) → let s : Slots = run entries empty in has_tee t s ≡ true
     → (run_teed t entries empty).cancels ≡ cancels_of t (tee_at t s)
 
--- over any run from any slots, the two reasons that a tee keeps stay
 abbrev pub EachPairStays : Type 0
 EachPairStays =
     (s : Slots) (entries : List Entry) (t : TeeId) (q : Plain × Plain) → pair_at t s ≡ Some q → pair_at t (run entries s) ≡ Some q

@@ -10,16 +10,12 @@ use Rattle.ws_steps.specs.Tee as tee
 use Rattle.ws_steps.specs.TeeHistory.{Teed, has_tee, run_teed}
 use Rattle.ws_steps.specs.TeeLaws.{held_values}
 
--- What the source gave was handed to the branches, in its order, but for the chunk that the tee holds; and what entered each branch was the first
--- part of that
 pub record GetsParts (h : Teed) (f g : Flow) (x : tee.Slots) : Type 0 where
   pub handed : List Value
   pub given : handed ++ held_values x.held ≡ h.given
   pub first : IsPrefixOf f.entered handed
   pub second : IsPrefixOf g.entered handed
 
--- in every run, of each tee: no chunk is given twice to a branch, none comes before another that the source gave first, none is left out between
--- others, and none comes from elsewhere
 abbrev pub EachBranchGetsAFirstPart : Type 0
 EachBranchGetsAFirstPart =
     (entries : List Entry) (t : TeeId) → let s : Slots = run entries empty in let x : tee.Slots = tee_at t s in has_tee t s ≡ true

@@ -8,13 +8,11 @@ use Rattle.ws_steps.specs.Slots.{empty, owner_at, writable_at}
 use Rattle.ws_steps.specs.WritableHistory.{run_writes, step_writes}
 use Rattle.ws_steps.specs.Laws.{IsLawfulWritable, IsWritableStep}
 
--- in every run each writable half of a transform stream is lawful
 abbrev pub EachHalfIsLawful : Type 0
 EachHalfIsLawful =
     (entries : List Entry) (i : StreamId) (t : TransformId)
     → owner_at i (run entries empty) ≡ HalfOf t → IsLawfulWritable (run_writes i entries empty) (writable_at i (run entries empty))
 
--- and so is each step of it
 abbrev pub EachHalfStep : Type 0
 EachHalfStep =
     (entries : List Entry) (x : Entry) (i : StreamId) (t : TransformId)

@@ -11,50 +11,39 @@ use Rattle.ws_host_laws.specs.HostCalls.{called}
 use Rattle.ws_want_laws.specs.Answers.{is_answering, is_at_work, unasked}
 use Rattle.ws_want_laws.specs.Waits.{write_waits, run_meanwhile}
 
--- in every run in which the host enqueued into the readable half of a transform stream only while no write of the writable half waited for the
--- backpressure to change, no write that waited goes on under backpressure
 abbrev pub NoneGoesOnPressed : Type 0
 NoneGoesOnPressed =
     (entries : List Entry) (x : Entry) (t : TransformId) (y : transform.Slots) → let s : Slots = run entries empty in slice_get (step s x).transforms t.0 ≡ Some y
     → run_meanwhile t y.readable entries empty ≡ [] → goes_on_pressed t s x ≡ false
 
--- so in each step of it, where no reader of the readable half was released while a read of it waited, the transform algorithm is performed only where
--- the readable half wants a chunk, or can take none
 abbrev pub EachTransformIsWanted : Type 0
 EachTransformIsWanted =
     (entries : List Entry) (x : Entry) (t : TransformId) (y : transform.Slots) → let s : Slots = run entries empty in slice_get (step s x).transforms t.0 ≡ Some y
     → run_meanwhile t y.readable entries empty ≡ [] → (run_reads y.readable entries empty).released ≡ [] → (step_reads y.readable s x).released ≡ []
     → step_unwanted t s x ≡ []
 
--- and where the readable half has mark 0 and can take a chunk, only while a read of that waits
 abbrev pub EachTransformIsRead : Type 0
 EachTransformIsRead =
     (entries : List Entry) (x : Entry) (t : TransformId) (y : transform.Slots) → let s : Slots = run entries empty in slice_get (step s x).transforms t.0 ≡ Some y
     → run_meanwhile t y.readable entries empty ≡ [] → (run_reads y.readable entries empty).released ≡ [] → (step_reads y.readable s x).released ≡ []
     → step_unread t s x ≡ []
 
--- in every run, while the host is called to start a transform stream or to transform a chunk and hasn't settled that call, and once it was called to
--- flush it, no write of the writable half waits for the backpressure to change
 abbrev pub NoneWaitsForAnAnswer : Type 0
 NoneWaitsForAnAnswer =
     (entries : List Entry) (t : TransformId) (y : transform.Slots) → let s : Slots = run entries empty in slice_get s.transforms t.0 ≡ Some y
     → is_answering y.readable (called entries) s ≡ true → write_waits t s ≡ false
 
--- and while the host is called to cancel it and hasn't settled that call, this is so, or the readable half can take no chunk
 abbrev pub NoneWaitsAtWork : Type 0
 NoneWaitsAtWork =
     (entries : List Entry) (t : TransformId) (y : transform.Slots) → let s : Slots = run entries empty in slice_get s.transforms t.0 ≡ Some y
     → is_at_work y.readable (called entries) s ≡ true → (write_waits t s ≡ false) ⊎ (can_close_or_enqueue (readable_at y.readable s) ≡ false)
 
--- so in each step of a run in which the host enqueued into the readable half only while an algorithm of its transformer was at work, and no reader of
--- that was released while a read of it waited, the transform algorithm is performed only where the readable half wants a chunk, or can take none.
 abbrev pub EachAnswerIsWanted : Type 0
 EachAnswerIsWanted =
     (entries : List Entry) (x : Entry) (t : TransformId) (y : transform.Slots) → let s : Slots = run entries empty in slice_get (step s x).transforms t.0 ≡ Some y
     → unasked y.readable entries ≡ [] → (run_reads y.readable entries empty).released ≡ [] → (step_reads y.readable s x).released ≡ []
     → step_unwanted t s x ≡ []
 
--- and where the readable half has mark 0 and can take a chunk, only while a read of that waits
 abbrev pub EachAnswerIsRead : Type 0
 EachAnswerIsRead =
     (entries : List Entry) (x : Entry) (t : TransformId) (y : transform.Slots) → let s : Slots = run entries empty in slice_get (step s x).transforms t.0 ≡ Some y

@@ -12,13 +12,10 @@ use Rattle.ws_link_laws.specs.Laws.{all_leave, run_heard, run_enters}
 use Rattle.ws_link_laws.specs.Room.{taken_places}
 use Rattle.ws_wire_laws.specs.Wire.{Joint, IsJoint, Each, IsWired, behind_on, call_on, heard_on, AreTwo}
 
--- It stays one with room, and what the host heard of it, followed by what is behind it then, is short of what was behind it before, followed by
--- what entered
 pub record KeepsJoint (s : Slots) (entries : List Entry) (x : Joint) : Type 0 where
   pub joint : IsJoint x (run entries s)
   pub short : IsShortOf (then_told (run_heard x.into entries s) (behind_on x (run entries s))) (then_told (behind_on x s) (run_enters x.from entries s))
 
--- over any run that leaves each link alone
 abbrev pub EachWiringKeeps : Type 0
 EachWiringKeeps =
     (xs : List Joint) (s : Slots) (entries : List Entry) → IsWired xs s → Each (λ x. all_leave x.from x.into entries ≡ true) xs → Each (KeepsJoint s entries) xs
@@ -31,7 +28,6 @@ pub record KeepsBehind (s z : Slots) (entered : Joint → Told Value) (x : Joint
 abbrev pub EachCallKeepsWiring : Type 0
 EachCallKeepsWiring = (xs : List Joint) (s : Slots) (c : Call) → IsWired xs s → Each (λ x. leaves x.from x.into c ≡ true) xs → Each (KeepsBehind s (after_call c s) (λ x. call_on x c)) xs
 
--- nor by a job, which brings nothing but the end of one stream, where it is the reaction to a flush that went well
 abbrev pub EachJobKeepsWiring : Type 0
 EachJobKeepsWiring = (xs : List Joint) (s : Slots) → IsWired xs s → Each (KeepsBehind s (after_job s) (λ x. next_enters x.gives (next_job s.promises))) xs
 
@@ -48,7 +44,6 @@ pub record KeepsHeard (s : Slots) (x : Joint) : Type 0 where
 abbrev pub EachEventKeepsWiring : Type 0
 EachEventKeepsWiring = (xs : List Joint) (s : Slots) → IsWired xs s → Each (KeepsHeard s) xs
 
--- at most one chunk is between a source's queue and the end of a write
 abbrev pub EachWiringHasRoom : Type 0
 EachWiringHasRoom = (xs : List Joint) (s : Slots) → IsWired xs s → Each (λ x. taken_places x.from x.into x.pipe s ≤ 1) xs
 
@@ -60,7 +55,6 @@ pub record AreWiredApart (xs ys : List Joint) (s : Slots) : Type 0 where
 abbrev pub EachPartIsWired : Type 0
 EachPartIsWired = (xs ys : List Joint) (s : Slots) → AreWiredApart xs ys s
 
--- a call brings something to one of two at most, and an event tells of one of two at most
 pub record MovesOne (x y : Joint) : Type 0 where
   pub call : (c : Call) → (call_on x c ≡ silence) ⊎ (call_on y c ≡ silence)
   pub event : (e : Event) → (heard_on x e ≡ silence) ⊎ (heard_on y e ≡ silence)

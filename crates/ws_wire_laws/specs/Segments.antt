@@ -122,6 +122,5 @@ back (suc (suc w)) = record { origin = FromPort; count = 0; target = ToPort } �
 abbrev pub hub : ℕ → List Segment
 hub w = record { origin = FromBytes; count = 0; target = ToPort } ∷ back w
 
--- no two links of any segments have a source, a port or what the host hears in common
 abbrev pub EachLinkIsItsOwn : Type 0
 EachLinkIsItsOwn = (xs : List Segment) → AreAllTwo (wiring xs nothing_made)

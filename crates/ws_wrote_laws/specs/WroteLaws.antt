@@ -17,8 +17,6 @@ use Rattle.ws_pipe_laws.specs.PipeMoves.{writes_first}
 use Rattle.ws_pipe_laws.specs.PipeReads.{held_values, appended_by}
 use Rattle.ws_pipe_laws.specs.PipeWrites.{AllMoments, AllSince, leaves, BeginsToAct}
 
--- In every run, in a step that finds a pipe not over: what is written to its destination is what the pipe passes on, unless the destination refuses
--- it
 abbrev pub EachDestinationIsItsPipes : Type 0
 EachDestinationIsItsPipes =
     (entries : List Entry) (x : Entry) (p : PipeId)
@@ -26,15 +24,12 @@ EachDestinationIsItsPipes =
     let i : StreamId = (pipe_at p s).dest in
     is_over (pipe_at p s).phase ≡ false → (step_writes i s x).written ≡ appended_by (writable_at i s) (step_through p s x).passed
 
--- What was written since to the destination, which was w and is z, by a pipe that was x: a first part of what the pipe passed on, and all of it
--- where the destination refuses no write. And what it acted on since is a first part of what was queued, then the chunk that the pipe held, then
--- what the pipe read
+-- what was written since to the destination, which was w and is z, by a pipe that was x, and what it acted on
 pub record IsAFront (h : Writes) (through : Through) (x : pipe.Slots) (w z : writable.Slots) : Type 0 where
   pub written : IsPrefixOf h.written through.passed
   pub whole : writable.write_refusal z ≡ None → h.written ≡ through.passed
   pub acted : IsPrefixOf h.acted (todo w.queue ++ (held_values x.held ++ through.read))
 
--- In every run, from any moment at which a pipe flows or waits until the end of the step in which it is over
 abbrev pub EachPipeWroteAFront : Type 0
 EachPipeWroteAFront =
     (before after : List Entry) (last : Entry) (p : PipeId)
@@ -53,14 +48,10 @@ pub record IsPassedOn (h : Through) : Type 0 where
   pub passed : h.passed ≡ h.read
   pub dropped : h.dropped ≡ []
 
--- In every run, a pipe that waited, or whose destination was writable and not closing, begins its action, or ends without one, only once it has
--- passed on all that it read so far, and it dropped nothing
 abbrev pub NoneActsWhileAChunkIsLeft : Type 0
 NoneActsWhileAChunkIsLeft =
     (entries : List Entry) (p : PipeId) → AllSince (λ past m. BeginsToAct p m → IsPassedOn (through_in p (past ++ m ∷ []))) [] (run_moments entries empty)
 
--- In every run, of a pipe whose source has ended before the step in which it begins its action, or ends without one, and that waited, or whose
--- destination was writable and not closing: it has passed on all that it read, and drops nothing, however the run goes on
 abbrev pub EachEndedSourceIsPassedOn : Type 0
 EachEndedSourceIsPassedOn =
     (before after : List Entry) (x : Entry) (p : PipeId) (ms ns : List Moment) (m : Moment)
@@ -69,8 +60,6 @@ EachEndedSourceIsPassedOn =
     is_over y.phase ≡ false → is_readable (source_at y.source s).state ≡ false → step_moments s x ≡ ms ++ m ∷ ns → BeginsToAct p m
     → IsPassedOn (run_through p (before ++ x ∷ after) empty)
 
--- In every run, of a pipe whose shutdown has no error as it begins its action, or ends without one, and that waited, or whose destination was
--- writable and not closing: its source was closed before that step; and it has passed on all that it read, and drops nothing, however the run goes on
 abbrev pub EachPipeWithoutAnErrorPassedAll : Type 0
 EachPipeWithoutAnErrorPassedAll =
     (before after : List Entry) (x : Entry) (p : PipeId) (ms ns : List Moment) (m : Moment)
@@ -84,8 +73,6 @@ WritesFirst p m =
     is_live (pipe_at p m.found).phase ≡ true → is_live (pipe_at p (leaves m)).phase ≡ false
     → ((pipe_at p m.found).phase ≡ Waiting) ⊎ (writes_first (ends_at (pipe_at p m.found) m.found) ≡ true)
 
--- In every run, a pipe that ended and whose promise is fulfilled, and that waited, or whose destination was writable and not closing as it began its
--- action, or ended without one: it has passed on all that it read, and dropped nothing
 abbrev pub EachFulfilledPipePassedAll : Type 0
 EachFulfilledPipePassedAll =
     (entries : List Entry) (p : PipeId)
