@@ -39,7 +39,7 @@ impl Model for Descriptor {
 }
 
 impl Descriptor {
-    /// Nothing is filled.
+    /// A descriptor for a room of which nothing is filled.
     pub fn make(room: Room, minimum: u64, element: u8, room_kind: RoomKind) -> Descriptor
         ensures { result ≡ unfilled (length room) minimum element room_kind }
     {
@@ -61,7 +61,7 @@ impl Descriptor {
         }
     }
 
-    /// Its reader was released.
+    /// Leaves the room to nobody, since the reader of the descriptor was released.
     pub fn release(&mut self)
         ensures { self.new ≡ record self.old { room_kind = ForNobody } }
     {
@@ -109,7 +109,7 @@ impl Descriptor {
         self.reach(n) % usize::from(self.element)
     }
 
-    /// Fills these bytes.
+    /// Fills the room on with these bytes.
     pub fn put(&mut self, bytes: &[u8])
         requires { Takes (length bytes.now) self.old }
         ensures { self.new ≡ record self.old { filled = self.old.filled ++ bytes.now } }

@@ -130,10 +130,10 @@ pub fn each_event_is_heard_at_one_link()
 /// rejected only with a reason by which a call failed something; and where it is fulfilled, a sink of the host's own
 /// is closed, and the host settled its close well.
 ///
-/// This is said after the opening of a chain (`each_chain_begins`) and any run. The promises of its pipes are those that they were
-/// answered, and are watched. The first part is said where no call of that run brought anything through a transform
-/// stream; in a realm with a tee the reason may be a pair of reasons too, and in one with a port a DataCloneError.
-/// The second is said of every realm.
+/// This is said after the opening of a chain (`each_chain_begins`) and any run. The promises of its pipes are those
+/// that they were answered, and are watched. The first part is said where no call of that run brought anything through
+/// a transform stream; in a realm with a tee the reason may be a pair of reasons too, and in one with a port a
+/// DataCloneError. The second is said of every realm.
 ///
 /// Of: chains, reasons, finalize.
 pub fn each_chain_ends()

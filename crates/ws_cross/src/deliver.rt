@@ -71,7 +71,7 @@ impl Port {
         }
     }
 
-    /// A message comes. Where the port isn't entangled, it is dropped.
+    /// Takes a message that comes by the port. Where the port isn't entangled, it is dropped.
     #[tactic(auto, unfolding(ws_steps::specs::Cross::deliver))]
     pub fn deliver(&mut self, me: PortId, p: &mut Promises, fx: &mut Agenda, message: Message)
         requires effect_room { HasEffectRoom 2 fx.old }

@@ -7,7 +7,7 @@ pub enum Refusal {
     /// The file is longer than 1,048,576 bytes.
     FileTooLong = 8,
 
-    /// It isn't TOML: its text isn't UTF-8, has an error, gives a key twice, or has an integer outside 64 bits.
+    /// The file isn't TOML: its text isn't UTF-8, has an error, gives a key twice, or has an integer outside 64 bits.
     NotToml = 9,
 
     /// A key is missing, unknown or of the wrong type; or one of bytes isn't an even number of hexadecimal digits.

@@ -7,7 +7,7 @@ use ws_value::Text;
 /// Why arguments couldn't be had.
 #[derive(Clone, Copy)]
 pub enum ArgumentsRefused {
-    /// One of them isn't UTF-8.
+    /// An argument isn't UTF-8.
     NotText,
 
     NoMemory,

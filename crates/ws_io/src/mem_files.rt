@@ -46,7 +46,7 @@ impl Model for MemFiles {
 }
 
 impl MemFiles {
-    /// No texts. The loads of the numbers `fails`, counted from 1, fail.
+    /// Files that have no text yet. The loads of the numbers `fails`, counted from 1, fail.
     pub fn make(alloc: Global, fails: &[u64]) -> Result<MemFiles, NoMemory>
         ensures { IfOk result (λ files. files ≡ record { entries = []; fails = fails.now; calls = 0; count = 0 }) }
     {

@@ -45,8 +45,6 @@ pub record IsCredited (e : Edge) : Type 0 where
   pub chunks : length (chunks_in e.down.sent) ≤ asks_in e.up.received
   pub pulls : pulls_in e.up.sent ≤ length (chunks_in e.down.received) + 1
 
--- so one chunk at most was sent and not received, until an error was received; and then two. And the pulls that were received are at most one more
--- than the chunks that were sent
 pub record HasFew (e : Edge) : Type 0 where
   pub one : has_end e.up.received ≡ false → length (chunks_in e.down.sent) ≤ length (chunks_in e.down.received) + 1
   pub two : length (chunks_in e.down.sent) ≤ length (chunks_in e.down.received) + 2

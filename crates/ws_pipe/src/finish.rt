@@ -105,7 +105,7 @@ impl Pipe {
         }
     }
 
-    /// There is no promise that the action waits for.
+    /// Goes on behind an action that has no promise to wait for.
     #[tactic(auto, unfolding(ws_steps::specs::Pipes::no_parts))]
     pub fn no_parts(&mut self, p: &mut Promises)
         ensures row { (fx : SeenAgenda) → acts_of self.new p.new fx ≡ rows.no_parts (acts_of self.old p.old fx) }

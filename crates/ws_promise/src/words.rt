@@ -7,13 +7,13 @@ use std::marker::Model;
 /// What tells a promise.
 #[derive(Clone, Copy)]
 pub enum Word {
-    /// It was fulfilled with undefined, and isn't watched.
+    /// The promise was fulfilled with undefined, and isn't watched.
     Ended,
-    /// It was fulfilled with undefined. So many became watched before it.
+    /// The promise was fulfilled with undefined, and so many became watched before it.
     Watched(u64),
-    /// It was let go of.
+    /// The promise was let go of.
     Released,
-    /// Its slot stands at this index.
+    /// The promise's slot stands at this index.
     At(usize),
 }
 

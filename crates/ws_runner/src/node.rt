@@ -25,7 +25,7 @@ pub const SOURCE: StreamId = StreamId(0);
 /// What became of the input.
 #[derive(Clone, Copy)]
 pub enum Input {
-    /// It may be read.
+    /// The input may be read.
     Open,
     /// A read answered that nothing is left.
     Ended,
@@ -38,13 +38,13 @@ pub enum Input {
 /// What became of the output.
 #[derive(Clone, Copy)]
 pub enum Output {
-    /// It may be written and finished.
+    /// The output may be written and finished.
     Open,
-    /// It was finished.
+    /// The output was finished.
     Finished,
     /// A write failed, or finishing it.
     Failed,
-    /// More was to be written once it had all bytes before the abort.
+    /// More was to be written once the output had all bytes before the abort.
     Aborted,
 }
 

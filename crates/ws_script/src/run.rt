@@ -47,7 +47,7 @@ pub fn run_script<S: Source, K: Sink>(alloc: Global, input: &mut S, output: &mut
         → Calm (S.faults input.old) (S.faults input.new) → Calm (K.faults output.old) (K.faults output.new)
         → (result ≡ Status.Done) ⊎ (result ≡ Status.NoMemory) }
 
-    // Where no read fails, what is outside the grammar is refused at its first bad line, and what is too long at line 0.
+    // Where no read fails, what is outside the grammar is refused at its first bad line; what is too long, at line 0.
     ensures outside { (text : List ℕ) (n : ℕ) → HasLeft (S.feed input.old) text → length text ≤ most_bytes
         → lines text ≡ Err n
         → Calm (S.faults input.old) (S.faults input.new) → (result ≡ Status.Script n) ⊎ (result ≡ Status.NoMemory) }

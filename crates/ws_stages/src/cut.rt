@@ -57,7 +57,7 @@ impl Cut {
         Ok(())
     }
 
-    /// A chunk comes out, of so many bytes.
+    /// Puts out a chunk that is made of so many bytes of the input.
     pub fn hand_on(&mut self, bytes: usize, chunk: Chunk) -> Result<(), NoMemory>
         requires room { self.old.bytes + bytes < 2 ^ 128 }
         ensures seen { OnOk result (seen self.new ≡ handing self.old bytes chunk) }
@@ -70,7 +70,7 @@ impl Cut {
         Ok(())
     }
 
-    /// This text comes out as a chunk, where it has a byte.
+    /// Puts out a text as a chunk, where it has a byte.
     pub fn hand_on_some(&mut self, text: Vec<u8>) -> Result<(), NoMemory>
         requires { self.old.chunks.items ≡ [] }
         ensures seen { OnOk result (seen self.new ≡ handing_some self.old text.items) }

@@ -14,7 +14,7 @@ pub enum ReaderKind {
 pub enum RoomKind {
     ForDefault,
     ForByob,
-    /// Its reader was released.
+    /// The reader of the descriptor was released.
     ForNobody,
 }
 

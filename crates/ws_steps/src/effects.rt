@@ -9,13 +9,13 @@ use ws_value::{Chunk, PipeId, Plain, PortId, PromiseId, SignalId, StreamId, TeeI
 /// Whose algorithms a stream performs.
 #[derive(Clone, Copy)]
 pub enum Owner {
-    /// Those of the host's underlying source or sink.
+    /// The algorithms are those of the host's underlying source or sink.
     Host,
-    /// Those of a transform stream, of which it is a half.
+    /// The algorithms are those of a transform stream, of which the stream is a half.
     HalfOf(TransformId),
-    /// Those of a tee, of which it is this branch.
+    /// The algorithms are those of a tee, of which the stream is this branch.
     BranchOf(TeeId, Half),
-    /// Those of a cross-realm transform, at this end of a port.
+    /// The algorithms are those of a cross-realm transform, at this end of a port.
     EndOf(PortId),
 }
 
@@ -31,9 +31,9 @@ pub enum Gift {
 /// What is done with a promise that an algorithm gives.
 #[derive(Clone, Copy)]
 pub enum Use {
-    /// A step reacts to it. Where there is a derived promise, it is the result of the reaction.
+    /// A step reacts to the promise. Where there is a derived promise, it is the result of the reaction.
     React(Step, Option<PromiseId>),
-    /// Another promise is resolved with it.
+    /// Another promise is resolved with the promise.
     Resolve(PromiseId),
 }
 

@@ -16,13 +16,13 @@ pub struct Prevent {
 /// How far a pipe is.
 #[derive(Clone, Copy, PartialEq, Eq)]
 pub enum Phase {
-    /// It reads and writes.
+    /// The pipe reads and writes.
     Flowing,
-    /// It is to shut down, and what was read is written first.
+    /// The pipe is to shut down, and what was read is written first.
     Waiting,
-    /// The action of its shutdown is under way.
+    /// The action of the pipe's shutdown is under way.
     Acting,
-    /// Its reader and its writer are released, and its promise has settled.
+    /// The pipe's reader and its writer are released, and its promise has settled.
     Over,
 }
 
@@ -60,37 +60,37 @@ pub struct Ends {
 /// An operation of a pipe, as it stands on the agenda.
 #[derive(Drop)]
 pub enum PipeOperation {
-    /// It looks at its two ends.
+    /// The pipe looks at its two ends.
     Look,
-    /// The writer's ready promise has settled: it waits for that no longer, and looks.
+    /// The writer's ready promise has settled: the pipe waits for that no longer, and looks.
     LookReady,
-    /// The chunk steps of its read request.
+    /// The chunk steps of the pipe's read request.
     KeepChunk(Value),
-    /// The close steps and the error steps of its read request.
+    /// The close steps and the error steps of the pipe's read request.
     ReadEnded,
-    /// The chunk that it holds is written.
+    /// The chunk that the pipe holds is written.
     WriteChunk,
-    /// It goes on after a write: it looks, or it proceeds with its shutdown.
+    /// The pipe goes on after a write: it looks, or it proceeds with its shutdown.
     GoOn,
-    /// A write has settled.
+    /// A write of the pipe has settled.
     WriteEnded,
-    /// Its signal was triggered.
+    /// The pipe's signal was triggered.
     Abort(Plain),
-    /// The promise of its action has settled.
+    /// The promise of the pipe's action has settled.
     ActionSettled(Result<Plain, Plain>),
-    /// One of the promises that its action waits for has settled.
+    /// One of the promises that the pipe's action waits for has settled.
     PartSettled(Result<Plain, Plain>),
-    /// There is no promise that its action waits for.
+    /// There is no promise that the pipe's action waits for.
     NoParts,
 }
 
 /// An operation of a signal, as it stands on the agenda.
 #[derive(Clone, Copy)]
 pub enum SignalOperation {
-    /// A pipe is to be aborted by it.
+    /// A pipe is to be aborted by the signal.
     Add(PipeId),
     /// A pipe is over.
     Forget(PipeId),
-    /// It is triggered with a reason, where it wasn't before.
+    /// The signal is triggered with a reason, where it wasn't before.
     Trigger(Plain),
 }

@@ -11,7 +11,7 @@ pub struct TransformId(pub u32);
 pub enum Kind {
     /// There is no transformer: each chunk is enqueued as it is.
     Identity,
-    /// Those of the host's transformer.
+    /// The algorithms are those of the host's transformer.
     Host,
 }
 

@@ -53,14 +53,14 @@ impl Transform {
         }
     }
 
-    /// Its writable half.
+    /// The number of the writable half.
     pub fn writable(&self) -> StreamId
         ensures { result ≡ self.now.writable }
     {
         self.writable
     }
 
-    /// Its readable half.
+    /// The number of the readable half.
     pub fn readable(&self) -> StreamId
         ensures { result ≡ self.now.readable }
     {
