@@ -13,24 +13,20 @@ use Rattle.ws_flow.specs.Parts.{AtWork, Live, Over, Part, Goes, Flows, residual,
 use Rattle.ws_flow.specs.Rows.{Place, in_place, LinkKeeps, Turned, Relates}
 use Rattle.ws_flow.specs.Chains.{Member, Chained, all_stages, all_parts}
 
--- what comes out of a joined list is what comes out of the first, and then what comes out of the second after it
 abbrev pub EachFlowGoesOn : Type 0
 EachFlowGoesOn =
     (m : Machine) (k : Kept) (x y : Told (List ℕ)) →
     through m k (then_told x y) ≡ then_told (through m k x) (through m (keeps m k x.items) y)
 
--- what comes out of a first part is a first part of what comes out of all, and what is cut short gives what is cut short
 abbrev pub EachFirstPartStays : Type 0
 EachFirstPartStays =
     (ms : List Machine) (x y : Told (List ℕ)) →
     (IsBefore x y → IsBefore (all_through ms x) (all_through ms y)) × (IsShortOf x y → IsShortOf (all_through ms x) (all_through ms y))
 
--- an ending that isn't fine stays, whatever more comes
 abbrev pub EachEndingStays : Type 0
 EachEndingStays =
     (ms : List Machine) (j : ℕ) (x y : Told (List ℕ)) → IsBefore x y → ending ms j x ≢ Fine → ending ms j y ≡ ending ms j x
 
--- where the last output closed, the input closed and each stage ended fine
 abbrev pub EachCloseIsWhole : Type 0
 EachCloseIsWhole =
     (ms : List Machine) (x : Told (List ℕ)) → (all_through ms x).mark ≡ Closed → (x.mark ≡ Closed) × ((j : ℕ) → ending ms j x ≡ Fine)
@@ -40,7 +36,6 @@ EachCuttingIsAlike =
     (ss : List Stage) (x y : Told (List ℕ)) → sees_known_chunks false ss ≡ true → bytes_of x ≡ bytes_of y →
     (bytes_of (all_through (machines ss) x) ≡ bytes_of (all_through (machines ss) y)) × ((j : ℕ) → ending (machines ss) j x ≡ ending (machines ss) j y)
 
--- and what a first part of the bytes gives, joined, is a first part of what all of them give
 abbrev pub EachFirstBytesStay : Type 0
 EachFirstBytesStay =
     (ss : List Stage) (a b : List ℕ) (e : Mark) → sees_known_chunks false ss ≡ true →
@@ -70,13 +65,11 @@ EachRunFlows =
     (taken : Told ℕ) (ms : List Member) (got : Told ℕ) → sees_known_chunks false (all_stages ms) ≡ true → Chained taken ms got →
     IsBefore got (bytes_of (reach (all_stages ms) taken.items taken.mark))
 
--- what a stage of it found is that stage's ending over the bytes that were taken
 abbrev pub EachFaultIsFound : Type 0
 EachFaultIsFound =
     (taken : Told ℕ) (ms : List Member) (got : Told ℕ) (j c p : ℕ) → sees_known_chunks false (all_stages ms) ≡ true → Chained taken ms got →
     found (all_parts ms) j ≡ Bad c p → ending (machines (all_stages ms)) j (as_one taken.items taken.mark) ≡ Bad c p
 
--- and an output that was finished has it all, the input was read to its end, and each stage ended fine
 abbrev pub EachFinishIsWhole : Type 0
 EachFinishIsWhole =
     (taken : Told ℕ) (ms : List Member) (got : Told ℕ) → sees_known_chunks false (all_stages ms) ≡ true → Chained taken ms got →
@@ -84,7 +77,6 @@ EachFinishIsWhole =
     (bytes_of (reach (all_stages ms) taken.items taken.mark) ≡ got) × (taken.mark ≡ Closed) ×
     ((j : ℕ) → ending (machines (all_stages ms)) j (as_one taken.items taken.mark) ≡ Fine)
 
--- A stage that sees bytes sees all its input's bytes at once: how they are cut shows only in how what comes out is packed
 abbrev pub EachInputIsOne : Type 0
 EachInputIsOne =
     (w : Packing) (f : Kept → ℕ → Pushed) (g : Kept → Pushed) (x : Told (List ℕ)) →
@@ -97,8 +89,6 @@ EachInputIsOne =
 abbrev pub EachOutputIsTold : Type 0
 EachOutputIsTold = (s : Stage) → IsTold s
 
--- No chunk that comes out reaches 2^25 bytes, where the pieces of the input have at most 4,096: of stages whose numbers are in their
--- range, at most 16 of them and at most 4 `hex`
 abbrev pub EachChunkIsShort : Type 0
 EachChunkIsShort =
     (ss : List Stage) (x : Told (List ℕ)) → list_all is_in_range ss ≡ true → count_by is_hex ss ≤ 4 → length ss ≤ 16 →
@@ -113,7 +103,6 @@ abbrev pub AreShort : List Part → Type 0
 AreShort [] = Unit {0}
 AreShort (p ∷ ps) = LiesShort p.work p.before.items × AreShort ps
 
--- and so no chunk reaches 2^25 bytes that lies in a node with such stages, or that it put out
 abbrev pub EachLyingChunkIsShort : Type 0
 EachLyingChunkIsShort =
     (ss : List Stage) (x : Told (List ℕ)) (ps : List Part) (out : Told (List ℕ)) →

@@ -71,7 +71,8 @@ pub fn each_run_flows()
 ///
 /// Each stage is told twice: as a machine, and by what its whole output is. The lines, blocks, frames and bytes that
 /// come out, joined with what is left, are the input; each is of its form; and where the input is malformed, the
-/// first byte that is wrong has the place and the code that are told.
+/// first byte that is wrong has the place and the code that are told. A stage that sees bytes sees all of them at
+/// once: how they are cut shows only in how what comes out is packed.
 ///
 /// Of: stages.
 pub fn each_output_is_told()

@@ -31,7 +31,7 @@ pub(crate) fn is_in_range(stage: &Stage) -> bool
     }
 }
 
-/// Whether it may stand where the cutting of its input is `known` not to depend on how that of the plan was cut.
+/// Whether a stage may stand where the cutting of its input is `known` not to depend on how that of the plan was cut.
 pub(crate) fn may_see(known: bool, stage: &Stage) -> bool
     ensures { result ≡ may_see known (form stage.now) }
 {
@@ -42,7 +42,7 @@ pub(crate) fn may_see(known: bool, stage: &Stage) -> bool
     }
 }
 
-/// Whether the same is known of what it hands on.
+/// Whether the cutting of what a stage hands on is known not to depend on that, by what is `known` of its input.
 pub(crate) fn is_known(known: bool, stage: &Stage) -> bool
     ensures { result ≡ is_known known (form stage.now) }
 {
