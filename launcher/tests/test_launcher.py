@@ -371,6 +371,12 @@ class Launcher(unittest.TestCase):
         (tools / "python3").unlink()
         self.assert_ended(self.run_streams("run", env=env), 72, "^streams: .* python3, .* isn't found: install it\n$")
 
+    def test_an_rt_that_cannot_be_started(self):
+        (self.bin / "rt").unlink()
+        (self.bin / "rt").write_text("#!/nowhere/at/all\n")
+        (self.bin / "rt").chmod(0o755)
+        self.assert_ended(self.run_streams("run"), 71, "^streams: rt can't be started: .*\n$")
+
     def test_without_rt_a_program_that_is_built_runs(self):
         self.built()
         (self.bin / "rt").unlink()
