@@ -360,22 +360,26 @@ class Launcher(unittest.TestCase):
             self.assertIn(word, ran.stdout.decode())
         self.assertEqual(self.run_streams("--help", "me").returncode, 2)
 
-    def test_without_rt(self):
-        (self.bin / "rt").unlink()
+    def tools(self):
+        """A folder with what the launcher calls, but rt."""
         tools = self.folder / "tools"
         tools.mkdir()
         for name in ("sh", "python3", "readlink", "dirname", "find", "head", "cat"):
             (tools / name).symlink_to(os.path.realpath(shutil.which(name)))
+        return tools
+
+    def test_without_rt(self):
+        tools = self.tools()
         env = {"PATH": str(tools)}
         self.assert_ended(self.run_streams("run", env=env), 72, "^streams: the command rt, .* isn't found: .*\n$")
         (tools / "python3").unlink()
         self.assert_ended(self.run_streams("run", env=env), 72, "^streams: .* python3, .* isn't found: install it\n$")
 
     def test_an_rt_that_cannot_be_started(self):
-        (self.bin / "rt").unlink()
-        (self.bin / "rt").write_text("#!/nowhere/at/all\n")
-        (self.bin / "rt").chmod(0o755)
-        self.assert_ended(self.run_streams("run"), 71, "^streams: rt can't be started: .*\n$")
+        rt = self.tools() / "rt"
+        rt.write_text("#!/nowhere/at/all\n")
+        rt.chmod(0o755)
+        self.assert_ended(self.run_streams("run", env={"PATH": str(rt.parent)}), 71, "^streams: rt can't be started: .*\n$")
 
     def test_without_rt_a_program_that_is_built_runs(self):
         self.built()
