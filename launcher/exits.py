@@ -13,7 +13,7 @@ NO_FOLDER = 73
 NO_ROOM = 74
 # The build was ended before it was done.
 ENDED = 75
-# The kit is another one.
+# The kit has another logic.
 OTHER_KIT = 78
 
 
