@@ -1,5 +1,5 @@
 -- What is shown of each kind of stage; and here of those that give a chunk for each chunk.
-use Rattle.std.proofs.Common.{◌≡◌, inl, ℕ, zero, suc, ◌+◌, ◌*◌, ◌/◌, ◌%◌, ◌<◌, ◌≤◌, pos, nat_abs, Bool, true, false, nat_eq, List, [], ◌∷◌, ◌++◌, length, map, get_or, decimal, bit_xor, length-append, add-zero, refl, sym, ap, ◌∙◌, subst, arith}
+use Rattle.std.proofs.Common.{◌≡◌, inl, ℕ, zero, suc, ◌+◌, ◌*◌, ◌/◌, ◌%◌, ◌<◌, ◌≤◌, pos, nat_abs, Bool, true, false, nat_eq, List, [], ◌∷◌, ◌++◌, length, map, get_or, decimal, bit_xor, length-append, refl, sym, ap, ◌∙◌, subst, arith}
 use Rattle.std.specs.Prelude.{if◌then◌else◌, codes}
 use Rattle.std.specs.List.{concat, All}
 use Rattle.std.specs.Fmt.{digits, digits_onto, digit_glyph}
@@ -10,14 +10,15 @@ use Rattle.ws_flow.specs.declared.plan.Ending.TheVariants.{Fine}
 use Rattle.ws_flow.specs.declared.plan.Stage.{Stage}
 use Rattle.ws_flow.specs.declared.plan.Stage.TheVariants.{Lines, Fixed, Hex, Unhex, Mask, Number, Frame, Unframe}
 use Rattle.ws_flow.specs.Told.{Mark, Open, Closed, Lost, told, then_told, bytes_of}
-use Rattle.ws_flow.specs.Machines.{mark_of, more, through, or_else, verdict, nothing_kept, each_byte, One, byte_machine, no_more, chunk_machine}
+use Rattle.ws_flow.specs.Machines.{more, through, verdict, nothing_kept, chunk_machine}
 use Rattle.ws_flow.specs.Stages.{hex_byte, masked, each_masked, mask_byte, number_push, each_numbered, framed, frame_push, machine, EachTextReadsBack, EachFrameReadsBack, EachMaskTwiceIsNone, EachPairUndoes}
 use Rattle.ws_flow.specs.Plans.{reach}
 use Rattle.ws_flow.specs.Laws.{EachOutputIsTold}
 use lib.Bits.{xor_self, xor_zero_r, xor_assoc}
 use Rattle.ws_flow.proofs.Whole.{each_is_all}
 use Rattle.ws_flow.proofs.Short.{EachShort, map_short, through_by}
-use Rattle.ws_flow.proofs.Kind.{NeverLate, each_never_late, IsKind}
+use Rattle.ws_flow.proofs.Kind.{each_never_late, IsKind}
+use Rattle.ws_flow.proofs.Texts.{AreTexts, texts_told, text_late, texts_short}
 use Rattle.ws_flow.proofs.Lines.{lines}
 use Rattle.ws_flow.proofs.Blocks.{fixed}
 use Rattle.ws_flow.proofs.Digits.{unhex}
@@ -26,30 +27,8 @@ use Rattle.ws_flow.proofs.Backwards.{unhex_of_hex, unframe_of_frame}
 
 -- `mask`
 
-pub mask_bytes : (key : List ℕ) (rest : List ℕ) (y n : ℕ) (c : List ℕ) → (concat (each_byte (mask_byte key) (record { rest = rest; bytes = y; chunks = n }) c).chunks ≡ masked key y c) × ((each_byte (mask_byte key) (record { rest = rest; bytes = y; chunks = n }) c).ending ≡ Fine) × ((each_byte (mask_byte key) (record { rest = rest; bytes = y; chunks = n }) c).kept ≡ record { rest = rest; bytes = y + length c; chunks = n })
-mask_bytes key rest y n [] = (refl, refl, ap (λ q. record { rest = rest; bytes = q; chunks = n }) (sym (add-zero y)))
-mask_bytes key rest y n (b ∷ c) =
-    let r = mask_bytes key rest (y + 1) n c in
-    (ap (λ q. bit_xor b (get_or key (y % length key) 0) ∷ q) r.0, r.1, r.2 ∙ ap (λ q. record { rest = rest; bytes = q; chunks = n }) (more_one y (length c))) where
-      more_one : (y l : ℕ) → y + 1 + l ≡ y + suc l
-      more_one y l = omega arith
-
-pub mask_through : (key : List ℕ) (y n : ℕ) (cs : List (List ℕ)) (e : Mark) →
-    (more (byte_machine One (mask_byte key) no_more) (record { rest = []; bytes = y; chunks = n }) cs e ≡ told (each_masked key y cs) e) × (verdict (byte_machine One (mask_byte key) no_more) (record { rest = []; bytes = y; chunks = n }) cs e ≡ Fine)
-mask_through key y n [] Open = (refl, refl)
-mask_through key y n [] Closed = (refl, refl)
-mask_through key y n [] Lost = (refl, refl)
-mask_through key y n (c ∷ cs) e =
-    let p = each_byte (mask_byte key) (record { rest = []; bytes = y; chunks = n }) c in
-    let b = mask_bytes key [] y n c in
-    let r = mask_through key (y + length c) n cs e in
-    let m = byte_machine One (mask_byte key) no_more in (
-      ap (λ q. then_told (told (concat p.chunks ∷ []) (mark_of q)) (more m p.kept cs e)) b.1
-          ∙ ap (λ q. then_told (told (q ∷ []) Open) (more m p.kept cs e)) b.0
-          ∙ ap (λ q. then_told (told (masked key y c ∷ []) Open) (more m q cs e)) b.2
-          ∙ ap (λ q. then_told (told (masked key y c ∷ []) Open) q) r.0,
-      ap (λ q. or_else q (verdict m p.kept cs e)) b.1 ∙ ap (λ q. verdict m q cs e) b.2 ∙ r.1,
-    )
+pub mask_texts : (key : List ℕ) → AreTexts (λ y b. bit_xor b (get_or key (y % length key) 0) ∷ []) (masked key) (each_masked key)
+mask_texts key = record { no_byte = λ y. refl; byte = λ y b bs. refl; no_chunk = λ y. refl; chunk = λ y c cs. refl }
 
 -- twice masked is not masked
 xor_twice : (b k : ℕ) → bit_xor (bit_xor b k) k ≡ b
@@ -71,20 +50,13 @@ each_masked_twice key place (c ∷ cs) =
     ∙ ap (λ q. c ∷ each_masked key (place + q) (each_masked key (place + length c) cs)) (length-masked key place c)
     ∙ ap (λ q. c ∷ q) (each_masked_twice key (place + length c) cs)
 
-masked_short : (key : List ℕ) (n p : ℕ) (cs : List (List ℕ)) → EachShort n cs → EachShort n (each_masked key p cs)
-masked_short key n p [] g = tt
-masked_short key n p (c ∷ cs) (l, g) = (subst (λ q. q ≤ n) (sym (length-masked key p c)) l, masked_short key n (p + length c) cs g)
-
-mask_late : (key : List ℕ) → NeverLate (mask_byte key)
-mask_late key k b code place e = grind arith
-
 mask : (key : List ℕ) → IsKind (Mask key)
 mask key = record {
-  told = λ x. mask_through key 0 0 x.items x.mark;
-  late = each_never_late (mask_byte key) (mask_late key);
+  told = texts_told (mask_texts key);
+  late = each_never_late (mask_byte key) (text_late (mask_texts key));
   fits = λ n l. tt;
   longest = λ n. n;
-  short = λ n x r h. through_by (Mask key) (each_masked key 0) n x (λ x. mask_through key 0 0 x.items x.mark) (masked_short key n 0 x.items h);
+  short = λ n x r h. through_by (Mask key) (each_masked key 0) n x (texts_told (mask_texts key)) (texts_short (mask_texts key) n n (λ y c l. subst (λ q. q ≤ n) (sym (length-masked key y c)) l) 0 x.items h);
   grows = λ n r. inl (omega arith);
 }
 
@@ -93,42 +65,17 @@ masked_text = refl
 
 -- `hex`
 
-pub hex_bytes : (rest : List ℕ) (y n : ℕ) (c : List ℕ) → (concat (each_byte hex_byte (record { rest = rest; bytes = y; chunks = n }) c).chunks ≡ encode_lower c) × ((each_byte hex_byte (record { rest = rest; bytes = y; chunks = n }) c).ending ≡ Fine) × ((each_byte hex_byte (record { rest = rest; bytes = y; chunks = n }) c).kept ≡ record { rest = rest; bytes = y + length c; chunks = n })
+pub hex_texts : AreTexts (λ y b. encode_lower (b ∷ [])) (λ y bs. encode_lower bs) (λ y cs. map encode_lower cs)
 unfolding encode_with
-hex_bytes rest y n [] = (refl, refl, ap (λ q. record { rest = rest; bytes = q; chunks = n }) (sym (add-zero y)))
-hex_bytes rest y n (b ∷ c) =
-    let r = hex_bytes rest (y + 1) n c in
-    (ap (λ q. encode_lower (b ∷ []) ++ q) r.0, r.1, r.2 ∙ ap (λ q. record { rest = rest; bytes = q; chunks = n }) (more_one y (length c))) where
-      more_one : (y l : ℕ) → y + 1 + l ≡ y + suc l
-      more_one y l = omega arith
-
-hex_through : (y n : ℕ) (cs : List (List ℕ)) (e : Mark) →
-    (more (byte_machine One hex_byte no_more) (record { rest = []; bytes = y; chunks = n }) cs e ≡ told (map encode_lower cs) e) × (verdict (byte_machine One hex_byte no_more) (record { rest = []; bytes = y; chunks = n }) cs e ≡ Fine)
-hex_through y n [] Open = (refl, refl)
-hex_through y n [] Closed = (refl, refl)
-hex_through y n [] Lost = (refl, refl)
-hex_through y n (c ∷ cs) e =
-    let p = each_byte hex_byte (record { rest = []; bytes = y; chunks = n }) c in
-    let b = hex_bytes [] y n c in
-    let r = hex_through (y + length c) n cs e in
-    let m = byte_machine One hex_byte no_more in (
-      ap (λ q. then_told (told (concat p.chunks ∷ []) (mark_of q)) (more m p.kept cs e)) b.1
-          ∙ ap (λ q. then_told (told (q ∷ []) Open) (more m p.kept cs e)) b.0
-          ∙ ap (λ q. then_told (told (encode_lower c ∷ []) Open) (more m q cs e)) b.2
-          ∙ ap (λ q. then_told (told (encode_lower c ∷ []) Open) q) r.0,
-      ap (λ q. or_else q (verdict m p.kept cs e)) b.1 ∙ ap (λ q. verdict m q cs e) b.2 ∙ r.1,
-    )
-
-hex_late : NeverLate hex_byte
-hex_late k b code place e = grind arith
+hex_texts = record { no_byte = λ y. refl; byte = λ y b bs. refl; no_chunk = λ y. refl; chunk = λ y c cs. refl }
 
 hex : IsKind Hex
 hex = record {
-  told = λ x. hex_through 0 0 x.items x.mark;
-  late = each_never_late hex_byte hex_late;
+  told = texts_told hex_texts;
+  late = each_never_late hex_byte (text_late hex_texts);
   fits = λ n l. tt;
   longest = λ n. 2 * n;
-  short = λ n x r h. through_by Hex (map encode_lower) (2 * n) x (λ x. hex_through 0 0 x.items x.mark) (map_short encode_lower n (2 * n) (λ c l. let e = length-encode_with lower_digits c in omega arith) x.items h);
+  short = λ n x r h. through_by Hex (map encode_lower) (2 * n) x (texts_told hex_texts) (texts_short hex_texts n (2 * n) (λ y c l. let e = length-encode_with lower_digits c in omega arith) 0 x.items h);
   grows = λ n r. omega arith;
 }
 

@@ -14,6 +14,7 @@ pub mod Members
 pub mod Whole
 pub mod Short
 pub mod Kind
+pub mod Texts
 pub mod Lines
 pub mod Blocks
 pub mod Digits

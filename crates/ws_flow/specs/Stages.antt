@@ -74,6 +74,12 @@ abbrev pub odd_end : Kept → List ℕ → Pushed
 odd_end k [] = pushed k [] Fine
 odd_end k (d ∷ r) = pushed k [] (Bad 3 k.bytes)
 
+-- no digit is left, or the value of one
+abbrev pub IsHalf : List ℕ → Type 0
+IsHalf [] = Unit {0}
+IsHalf (d ∷ []) = d < 16
+IsHalf (d ∷ e ∷ r) = ⊥
+
 -- the values of the digits of a text, whatever else is in it
 abbrev pub digit_or_none : Option ℕ → List ℕ
 digit_or_none (Some d) = d ∷ []
@@ -218,6 +224,11 @@ is_in_range _ = true
 abbrev pub HasLength : Stage → ℕ → Type 0
 HasLength Frame n = n < 2 ^ 32
 HasLength _ n = Unit {0}
+
+-- what a stage can have left over of its input
+abbrev pub RestFits : Stage → List ℕ → Type 0
+RestFits Unhex rest = IsHalf rest
+RestFits _ rest = Unit {0}
 
 -- the codes of what a stage finds only at the end of its input: a digit that is left, and a frame that isn't whole
 abbrev pub is_of_end : ℕ → Bool

@@ -2,8 +2,6 @@
 use Rattle.std.specs.Prelude.{◌≡◌, ◌≢◌, List, [], ◌∷◌, ℕ, ◌+◌, ◌^◌, ◌++◌, ◌<◌, length, slice_index}
 use Rattle.std.specs.List.{concat}
 use Rattle.ws_flow.specs.declared.plan.Ending.TheVariants.{Fine}
-use Rattle.ws_flow.specs.declared.plan.Stage.{Stage}
-use Rattle.ws_flow.specs.declared.plan.Stage.TheVariants.{Unhex}
 use Rattle.ws_flow.specs.Machines.{Kept, Pushed, some_chunk}
 use Rattle.ws_stages.specs.declared.cut.Cut.{Cut}
 
@@ -42,17 +40,6 @@ seen_text cut text = record { kept = kept_of cut; chunks = text ∷ []; ending =
 -- this text, and then what came, joined
 abbrev pub with_text : List ℕ → Pushed → Pushed
 with_text text p = record p { chunks = (text ++ concat p.chunks) ∷ [] }
-
--- what `unhex` has left over: no digit or one
-abbrev pub IsHalf : List ℕ → Type 0
-IsHalf [] = Unit {0}
-IsHalf (d ∷ []) = d < 16
-IsHalf (d ∷ e ∷ r) = ⊥
-
--- what a stage has left over: `unhex` no digit or one
-abbrev pub RestFits : Stage → List ℕ → Type 0
-RestFits Unhex rest = IsHalf rest
-RestFits _ rest = Unit {0}
 
 -- before a chunk of n bytes
 pub record CanTake (cut : Cut) (n : ℕ) : Type 0 where

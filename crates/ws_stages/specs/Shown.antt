@@ -3,10 +3,10 @@ use Rattle.std.specs.Prelude.{◌≡◌, ◌*◌, ◌^◌, ◌≤◌, Bool, true
 use Rattle.ws_flow.specs.declared.plan.Ending.{Ending}
 use Rattle.ws_flow.specs.declared.plan.Ending.TheVariants.{Fine}
 use Rattle.ws_flow.specs.Machines.{Kept}
-use Rattle.ws_flow.specs.Stages.{is_in_range}
+use Rattle.ws_flow.specs.Stages.{is_in_range, RestFits}
 use Rattle.ws_flow.specs.Parts.{AtWork, Live, Over}
 use Rattle.ws_stages.specs.declared.work.Work.TheInside.{Inside}
-use Rattle.ws_stages.specs.Cuts.{RestFits, kept_of}
+use Rattle.ws_stages.specs.Cuts.{kept_of}
 use Rattle.ws_stages.specs.State.{State}
 
 abbrev pub at_work : Bool → Ending → Kept → AtWork

@@ -2,8 +2,8 @@
 ghost use Rattle.std.specs.Prelude.{◌≡◌, ◌+◌, ◌≤◌, [], true, IfOk, OnOk, length};
 ghost use Rattle.ws_flow.specs.declared.plan.Ending.TheVariants.{Fine};
 ghost use Rattle.ws_flow.specs.Plans.{is_known, may_see};
-ghost use Rattle.ws_flow.specs.Stages.{HasLength, form, is_in_range, machine};
-ghost use Rattle.ws_stages.specs.Cuts.{CanTake, RestFits, kept_of, seen};
+ghost use Rattle.ws_flow.specs.Stages.{HasLength, RestFits, form, is_in_range, machine};
+ghost use Rattle.ws_stages.specs.Cuts.{CanTake, kept_of, seen};
 
 use crate::cut::{Blocks, Cut, Frames, Lines, cut_bytes, cut_lines};
 use crate::text::{framed, from_hex, in_hex, masked, numbered};

@@ -1,11 +1,11 @@
 //! What stages make of bytes: each one masked, their hexadecimal text, the bytes of such a text, and chunks with a
 //! number or a length before them.
-ghost use Rattle.std.specs.Prelude.{◌≡◌, ◌∷◌, ◌++◌, ◌+◌, ◌<◌, ◌≤◌, ◌^◌, IfOk, OnOk, [], decimal, length};
+ghost use Rattle.std.specs.Prelude.{◌≡◌, ◌∷◌, ◌++◌, ◌+◌, ◌<◌, ◌≤◌, ◌^◌, IfOk, OnOk, decimal, length};
 ghost use Rattle.hex.specs.Hex.{hex_digit_value};
 ghost use Rattle.ws_flow.specs.declared.plan.Ending.TheVariants.{Fine};
 ghost use Rattle.ws_flow.specs.Machines.{One, SomeBytes, byte_push};
-ghost use Rattle.ws_flow.specs.Stages.{framed, hex_byte, mask_byte, unhex_byte};
-ghost use Rattle.ws_stages.specs.Cuts.{CanTake, IsHalf, handing, handing_some, kept_of, seen_text, with_text};
+ghost use Rattle.ws_flow.specs.Stages.{IsHalf, framed, hex_byte, mask_byte, unhex_byte};
+ghost use Rattle.ws_stages.specs.Cuts.{CanTake, handing, handing_some, kept_of, seen_text, with_text};
 
 use crate::cut::Cut;
 use itoa::Buffer;

@@ -1,8 +1,8 @@
 use Rattle.std.proofs.Common.{◌≡◌, ◌+◌, ◌≤◌, [], take}
 use Rattle.ws_flow.specs.declared.plan.Ending.TheVariants.{Fine}
 use Rattle.ws_flow.specs.Machines.{each_byte}
-use Rattle.ws_flow.specs.Stages.{unhex_byte}
-use Rattle.ws_stages.specs.Cuts.{IsHalf, kept_of, seen_text, with_text}
+use Rattle.ws_flow.specs.Stages.{IsHalf, unhex_byte}
+use Rattle.ws_stages.specs.Cuts.{kept_of, seen_text, with_text}
 use Rattle.ws_stages.proofs.text.from_hex.Given as goal
 
 abbrev pub invariant-loop-byte : goal.invariant-loop-byte

@@ -1,10 +1,9 @@
 use Rattle.std.proofs.Common.{◌≡◌, ◌≢◌, ◌≤◌, ℕ, suc, ◌%◌, subst, ◌+◌, ◌<◌, List, [], ◌∷◌, ◌++◌, length, take, get_or, bit_xor, sym, ap, ◌∙◌, arith}
 use Rattle.std.proofs.Math.Nat.{suc-mod, mod_self, mod-eq_of_lt}
 use Rattle.std.proofs.lemmas.List.{length-take-le, take_more, take_all}
-use Rattle.ws_flow.specs.Stages.{mask_byte, masked}
-use Rattle.ws_flow.proofs.EachKind.{mask_bytes}
-use Rattle.ws_stages.specs.Cuts.{kept_of}
-use Rattle.ws_stages.proofs.Pushes.{handing_is, one_push}
+use Rattle.ws_flow.specs.Stages.{masked}
+use Rattle.ws_flow.proofs.EachKind.{mask_texts}
+use Rattle.ws_stages.proofs.Pushes.{texts_push}
 use Rattle.ws_stages.proofs.text.masked.Goals as goal
 use Rattle.ws_stages.proofs.text.masked.Goals.{then-at-key, else-at-key}
 
@@ -47,8 +46,7 @@ returns c =
     let key = c.args.key.now in
     let bs = c.args.bytes.now in
     let text = c.from_vec.ensures ∙ c.loop-byte.invariant.text ∙ ap (λ q. masked key cut.bytes q) (take_all c.loop-byte.byte-index bs c.loop-byte-test.false) in
-    handing_is cut (length bs) c.from_vec.result (masked key cut.bytes bs) c.requires.room text
-    ∙ one_push (mask_byte key) (kept_of cut) (record (kept_of cut) { bytes = cut.bytes + length bs }) bs (masked key cut.bytes bs) (mask_bytes key cut.rest.items cut.bytes cut.count bs)
+    texts_push (mask_texts key) cut bs c.from_vec.result c.requires.room text
 
 pub push_reserved-requires : goal.push_reserved-requires
 push_reserved-requires c = let count = c.loop-byte.invariant.count in let room = c.loop-byte.invariant.room in omega arith
