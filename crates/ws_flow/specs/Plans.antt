@@ -22,7 +22,7 @@ reach ss b m = all_through (machines ss) (as_one b m)
 abbrev pub stages_of : Plan → List Stage
 stages_of plan = map (λ p. p.stage) plan.stages.items
 
--- whether a stage may stand where it is `known` that the cutting of its input doesn't depend on how that of the plan was cut
+-- whether a stage may stand where it is `known` that the cutting of its input doesn't depend on how the plan's input was cut
 abbrev pub may_see : Bool → Form → Bool
 may_see known (OfBytes w f g) = true
 may_see known (OfChunks f) = known
