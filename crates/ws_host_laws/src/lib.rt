@@ -35,8 +35,8 @@ pub fn each_fulfilled_pipe_closed_its_destination()
 /// Each write that a pipe without `preventClose` made is fulfilled with undefined where the pipe's promise is
 /// fulfilled, whatever its destination was as it was made.
 ///
-/// Of a pipe with `preventClose` this isn't proved: there each write had settled as it began its action, where it
-/// waited or its destination was writable and not closing (`none_acts_while_a_write_is_open`).
+/// Of a pipe with `preventClose` it is so where its destination hadn't failed
+/// (`each_fulfilled_pipe_wrote_all_it_read`).
 ///
 /// Of: pipes, the promise of a write.
 pub fn each_write_of_a_fulfilled_pipe_succeeded()

@@ -20,7 +20,7 @@ use Rattle.ws_steps.specs.Pipes as pipe
 use Rattle.ws_steps.specs.Pipes.{Acts, write_in, write_held, write_chunk}
 use Rattle.ws_steps.specs.Promises as promises
 use Rattle.ws_steps.specs.Promises.{Table, live, entry_at, with_entry, next_id, fresh, is_pending, is_pending_outcome, is_pending_at, is_open_entry, settled, settle, answer, react, react_entry, react_by, enqueue_job, job_of, follow, unfollow, queue_micro, tell, use_gift, watch, next_job, first_job, after_first, after_next_job, taken, went_astray}
-use Rattle.ws_steps.specs.Run.{after_event}
+use Rattle.ws_steps.specs.Run.{Entry, run, after_event}
 use Rattle.ws_steps.specs.Slots.{Slots, Done, empty, ends_at, as_pipe, on_pipe_at}
 use Rattle.ws_steps.specs.Turns.{Moment, row}
 use Rattle.ws_steps.proofs.PromiseLaws.{entry_within, entry_at-with_entry_same, entry_at-with_entry_other, length-with_entry, entry_at-fresh, length-fresh}
@@ -32,7 +32,7 @@ use Rattle.ws_laws.proofs.Walker.{GoesUntold, RestsUntold, run-holds}
 use Rattle.ws_laws.proofs.Weights.{of_reactions, of_entry, of_entries, weigh}
 use Rattle.ws_promise_laws.proofs.Acting.{EachWaits, waits-stays, waits-heard, none-waits}
 use Rattle.ws_writable_laws.proofs.Shape.{of_reaction, weight, all, all-append}
-use Rattle.ws_pipe_laws.specs.PipeHistory.{held_promise, operation_promises, effect_moment, effect_promises, promises_made}
+use Rattle.ws_pipe_laws.specs.PipeHistory.{run_moments, held_promise, operation_promises, effect_moment, effect_promises, promises_made}
 use Rattle.ws_pipe_write_laws.proofs.Orderly.{moment, moments_history, row-orderly, unsettled_at}
 use Rattle.ws_pipe_write_laws.proofs.Owed.{EachOwes, Owes, owes-stays, owes-heard, none-owes}
 use Rattle.ws_pipe_write_laws.proofs.Paying.{pays}
@@ -246,7 +246,7 @@ module _ (p : PipeId) (d : PromiseId) where
 -- of every write that it made
 
 module _ (p : PipeId) where
-  abbrev AllGood : List PromiseId → Table → List Effect → Type 0
+  abbrev pub AllGood : List PromiseId → Table → List Effect → Type 0
   AllGood [] t es = Unit {0}
   AllGood (d ∷ ds) t es = Good p d t es × AllGood ds t es
 
@@ -258,7 +258,7 @@ module _ (p : PipeId) where
   good-append [] cs t es g h = h
   good-append (d ∷ ds) cs t es g h = (g.0, good-append ds cs t es g.1 h)
 
-  all_settled : (ds : List PromiseId) (t : Table) (es : List Effect) → weight (of_write p) t + all (pays p) es ≤ 0 → AllGood ds t es → AllSettled t ds
+  pub all_settled : (ds : List PromiseId) (t : Table) (es : List Effect) → weight (of_write p) t + all (pays p) es ≤ 0 → AllGood ds t es → AllSettled t ds
   all_settled [] t es n g = tt
   all_settled (d ∷ ds) t es n g = (has_settled p d t es n g.0, all_settled ds t es n g.1)
 
@@ -318,7 +318,7 @@ module _ (p : PipeId) where
   promises-append [] ns = refl
   promises-append (m ∷ ms) ns = ap (λ (ds : List PromiseId). effect_promises p m.effect m.found ++ ds) (promises-append ms ns) ∙ sym (append_assoc (effect_promises p m.effect m.found) (promises_made p ms) (promises_made p ns))
 
-  one_more : (ms : List Moment) (e : Effect) (s : Slots) → promises_made p (ms ++ moment e s ∷ []) ≡ promises_made p ms ++ effect_promises p e s
+  pub one_more : (ms : List Moment) (e : Effect) (s : Slots) → promises_made p (ms ++ moment e s ∷ []) ≡ promises_made p ms ++ effect_promises p e s
   one_more ms e s = promises-append ms (moment e s ∷ []) ∙ ap (λ (ds : List PromiseId). promises_made p ms ++ ds) (append-nil (effect_promises p e s))
 
   since-append : (P : List Moment → Moment → Type 0) (past ms : List Moment) (m : Moment) → AllSince P past ms → P (past ++ ms) m → AllSince P past (ms ++ m ∷ [])
@@ -326,10 +326,10 @@ module _ (p : PipeId) where
   since-append P past (x ∷ ms) m a q =
       (a.0, since-append P (past ++ x ∷ []) ms m a.1 (subst (λ (h : List Moment). P h m) (sym (append_assoc past (x ∷ []) ms)) q))
 
-  abbrev HasSettled : List Moment → Moment → Type 0
+  abbrev pub HasSettled : List Moment → Moment → Type 0
   HasSettled past m = BeginsToAct p m → AllSettled (leaves m).promises (promises_made p past)
 
-  abbrev Is : List Moment → Slots → List Effect → Type 0
+  abbrev pub Is : List Moment → Slots → List Effect → Type 0
   Is h s es = AllSince HasSettled [] h × (AllGood (promises_made p h) s.promises es × (EachWaits s es × EachOwes s es))
 
   row-settled : (h : List Moment) (s : Slots) (e : Effect) (es : List Effect) → Is h s (e ∷ es) → HasSettled h (moment e s)
@@ -371,7 +371,7 @@ module _ (p : PipeId) where
     writable = λ z owner mark size k. k;
   }) c s k
 
-  goes : GoesUntold ◌++◌ effect_moment Is
+  pub goes : GoesUntold ◌++◌ effect_moment Is
   goes = record {
     row = λ h s e es k. row-is h s e es k;
     call = λ h s c k. (k.0, (rested h s.promises (begin c s).done.slots.promises (begin c s).done.caused (λ d g. call-has d c s g) k.1.0, (waits-stays.call s c k.1.1.0, owes-stays.call s c k.1.1.1)));
@@ -386,9 +386,11 @@ module _ (p : PipeId) where
   heard h s k =
       (k.0, (rested h s.promises (after_event s).promises [] (λ d g. record { made = g.made; good = g.good }) k.1.0, (waits-heard s k.1.1.0, owes-heard s k.1.1.1)))
 
-  rests : RestsUntold Is
+  pub rests : RestsUntold Is
   rests = record { heard = heard }
 
+pub run-settled : (entries : List Entry) (p : PipeId) → Is p (run_moments entries empty) (run entries empty) []
+run-settled entries p = run-holds [] ◌++◌ moments_history effect_moment (Is p) (goes p) (rests p) entries empty (tt, (tt, ((λ q. none-waits q), (λ q. none-owes q))))
+
 pub none_acts_while_a_write_is_open : NoneActsWhileAWriteIsOpen
-none_acts_while_a_write_is_open entries p =
-    (run-holds [] ◌++◌ moments_history effect_moment (Is p) (goes p) (rests p) entries empty (tt, (tt, ((λ q. none-waits q), (λ q. none-owes q))))).0
+none_acts_while_a_write_is_open entries p = (run-settled entries p).0

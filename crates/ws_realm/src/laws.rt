@@ -43,6 +43,12 @@ pub use ws_reason_laws::{
     each_stored_error_has_an_origin, each_stored_error_was_a_failure,
 };
 pub use ws_room_laws::{effects_end_once, room_is_enough};
+pub use ws_success_laws::{
+    each_fulfilled_pipe_wrote_all_it_read, each_outcome_heard_is_the_promises,
+    each_pass_has_a_promise, each_pipe_ends_as_it_shut_down, each_pipe_ends_as_its_action,
+    each_write_before_a_failure_succeeded, each_write_of_a_pipe_that_found_no_failure_succeeded,
+    each_write_of_an_unfailing_pipe_succeeded, none_is_rejected_before_a_failure,
+};
 pub use ws_transform_laws::{
     each_acted_is_transformed, each_chunk_is_read, each_chunk_is_wanted, each_half_is_lawful,
     each_half_step, each_step_enters, flushes_close, jobs_enter_nothing, no_backpressure_is_wanted,
