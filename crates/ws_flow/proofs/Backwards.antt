@@ -5,7 +5,7 @@ use Rattle.std.specs.List.{concat}
 use Rattle.hex.specs.Hex.{encode_lower, encode_with, hex_digit_value, lower_digits}
 use Rattle.hex.proofs.HexLemmas.{IsDigits-lower_digits}
 use Rattle.ws_flow.specs.declared.plan.Ending.TheVariants.{Fine, Bad}
-use Rattle.ws_flow.specs.Told.{Mark, Open, Closed, Lost, told, then_told, bytes_of}
+use Rattle.ws_flow.specs.Told.{Mark, Open, Closed, Broken, Lost, told, then_told, bytes_of}
 use Rattle.ws_flow.specs.Machines.{Kept, Pushed, mark_of, end_mark, at_end, more, or_else, end_verdict, verdict, pushed, nothing_kept, with_rest, added, each_byte, AsCut, SomeBytes, byte_machine}
 use Rattle.ws_flow.specs.Stages.{digit_met, unhex_byte, odd_end, four_bytes, framed, frame_has, unframe_byte, inside_end}
 use Rattle.ws_flow.proofs.Cutting.{more_cut, more_bytes, verdict_bytes}
@@ -81,6 +81,7 @@ concat_encoded (c ∷ cs) = ap (λ q. encode_lower c ++ q) (concat_encoded cs) �
 
 ended_fine : (e : Mark) (k : Kept) → k.rest ≡ [] → (bytes_of (at_end (byte_machine SomeBytes unhex_byte (λ k. odd_end k k.rest)) k e) ≡ told [] e) × (end_verdict (byte_machine SomeBytes unhex_byte (λ k. odd_end k k.rest)) k e ≡ Fine)
 ended_fine Open k h = (refl, refl)
+ended_fine Broken k h = (refl, refl)
 ended_fine Lost k h = (refl, refl)
 ended_fine Closed k h = (ap (λ q. bytes_of (told (odd_end k q).chunks (end_mark (odd_end k q).ending))) h, ap (λ q. (odd_end k q).ending) h)
 
@@ -188,6 +189,7 @@ frames_read most y n (c ∷ cs) w (h, g) =
 
 frames_end : (most : ℕ) (e : Mark) (k : Kept) → k.rest ≡ [] → (at_end (byte_machine AsCut (unframe_byte most) (λ k. inside_end k k.rest)) k e ≡ told [] e) × (end_verdict (byte_machine AsCut (unframe_byte most) (λ k. inside_end k k.rest)) k e ≡ Fine)
 frames_end most Open k h = (refl, refl)
+frames_end most Broken k h = (refl, refl)
 frames_end most Lost k h = (refl, refl)
 frames_end most Closed k h = (ap (λ q. told (inside_end k q).chunks (end_mark (inside_end k q).ending)) h, ap (λ q. (inside_end k q).ending) h)
 

@@ -1,7 +1,7 @@
 use Rattle.std.proofs.Common.{◌≡◌, ◌≢◌, ℕ, List, [], ◌∷◌, ◌++◌, refl, sym, ap, ◌∙◌, subst}
 use Rattle.ws_flow.specs.Machines.{Kept, Machine, more, through, keeps, verdict, all_through}
 use Rattle.ws_flow.specs.Parts.{AtWork, Live, Over, Part, nothing_told, fresh, LiveAsked, Asked, made, Goes, Flows, still, residual}
-use Rattle.ws_flow.specs.Told.{Mark, Open, Closed, Lost, Told, told, goes_on, then_told, IsShortOf, IsBefore}
+use Rattle.ws_flow.specs.Told.{Mark, Open, Closed, Broken, Lost, Told, told, goes_on, then_told, IsShortOf, IsBefore}
 use Rattle.ws_flow.proofs.Through.{keeps_append, verdict_append, after_end, after_close, through_then, through_short}
 use Rattle.ws_flow.proofs.Told.{then_assoc, then_empty, short_trans, short_same, short_as, short_left, short_right, short_all, before_of_short, before_trans, before_then}
 use Rattle.ws_flow.specs.declared.plan.Ending.TheVariants.{Fine}
@@ -10,6 +10,7 @@ use Rattle.ws_flow.specs.declared.plan.Ending.TheVariants.{Fine}
 live_made : (m : Machine) (k : Kept) (xs : List (List ℕ)) (n : Mark) (w : AtWork) (u : Told (List ℕ)) → LiveAsked m k xs n w → through m k (goes_on xs n u) ≡ then_told (more m k xs n) (made m w u)
 live_made m k xs Open w u (a, b) = through_then m k (told xs Open) u ∙ ap (λ q. then_told (more m k xs Open) (made m q u)) (sym a)
 live_made m k xs Closed w u a = sym (after_close m k xs (made m w u))
+live_made m k xs Broken w u a = elim a [ ]
 live_made m k xs Lost w u a = sym (after_end m k xs (made m w u))
 
 pub made_then : (m : Machine) (w : AtWork) (t : Told (List ℕ)) (v : AtWork) (u : Told (List ℕ)) → Asked m w t v → made m w (then_told t u) ≡ then_told (made m w t) (made m v u)
@@ -21,8 +22,10 @@ live_asked m k xs Open v u w (a, b) h = live_on m k xs u.items u.mark w b (subst
   live_on : (m : Machine) (k : Kept) (xs ys : List (List ℕ)) (n : Mark) (w : AtWork) → verdict m k xs Open ≡ Fine → LiveAsked m (keeps m k xs) ys n w → LiveAsked m k (xs ++ ys) n w
   live_on m k xs ys Open w e (a, b) = (a ∙ ap Live (sym (keeps_append m k xs ys)), verdict_append m k xs ys Open e ∙ b)
   live_on m k xs ys Closed w e a = a ∙ ap Over (sym (verdict_append m k xs ys Closed e))
+  live_on m k xs ys Broken w e a = elim a [ ]
   live_on m k xs ys Lost w e a = a ∙ ap Over (sym (verdict_append m k xs ys Lost e))
 live_asked m k xs Closed v u w a h = (subst (λ q. Asked m q u w) a h).1 ∙ refl
+live_asked m k xs Broken v u w a h = elim a [ ]
 live_asked m k xs Lost v u w a h = (subst (λ q. Asked m q u w) a h).1 ∙ refl
 
 pub asked_then : (m : Machine) (w : AtWork) (t : Told (List ℕ)) (v : AtWork) (u : Told (List ℕ)) (x : AtWork) → Asked m w t v → Asked m v u x → Asked m w (then_told t u) x

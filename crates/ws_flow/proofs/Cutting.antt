@@ -3,7 +3,7 @@ use Rattle.std.proofs.Common.{◌≡◌, ℕ, zero, suc, true, false, ◌&&◌, 
 use Rattle.ws_flow.specs.Machines.{Kept, Pushed, Machine, mark_of, piece, at_end, more, through, or_else, end_verdict, verdict, all_through, ending, pushed, added, each_byte, Packing, AsCut, One, SomeBytes, some_chunk, packed, byte_machine, Form, OfBytes, OfChunks, machine_of}
 use Rattle.ws_flow.specs.Plans.{may_see, is_known, sees_known_chunks}
 use Rattle.ws_flow.specs.Stages.{form, machines}
-use Rattle.ws_flow.specs.Told.{bytes_of, Mark, Open, Closed, Lost, Told, told, goes_on, then_told}
+use Rattle.ws_flow.specs.Told.{bytes_of, Mark, Open, Closed, Broken, Lost, Told, told, goes_on, then_told}
 use Rattle.ws_flow.proofs.Told.{then_assoc}
 use Rattle.ws_flow.specs.declared.plan.Ending.TheVariants.{Fine, Bad}
 use Rattle.ws_flow.specs.declared.plan.Ending.{Ending}
@@ -17,6 +17,7 @@ joined_append (c ∷ cs) b = ap (λ q. c ++ q) (joined_append cs b) ∙ sym (app
 bytes_by : (xs : List (List ℕ)) (m : Mark) (y : Told (List ℕ)) → bytes_of (goes_on xs m y) ≡ goes_on (concat xs) m (bytes_of y)
 bytes_by xs Open y = ap (λ q. told q y.mark) (joined_append xs y.items)
 bytes_by xs Closed y = refl
+bytes_by xs Broken y = refl
 bytes_by xs Lost y = refl
 
 pub bytes_then : (x y : Told (List ℕ)) → bytes_of (then_told x y) ≡ then_told (bytes_of x) (bytes_of y)

@@ -7,7 +7,7 @@ use Rattle.hex.specs.Hex.{hex_digit_value}
 use Rattle.ws_flow.specs.declared.plan.Ending.{Ending}
 use Rattle.ws_flow.specs.declared.plan.Ending.TheVariants.{Fine, Bad}
 use Rattle.ws_flow.specs.declared.plan.Stage.TheVariants.{Unhex}
-use Rattle.ws_flow.specs.Told.{Closed, Lost, told, bytes_of}
+use Rattle.ws_flow.specs.Told.{Closed, Broken, told, bytes_of}
 use Rattle.ws_flow.specs.Machines.{Kept, Pushed, ending, pushed, nothing_kept, with_rest, added, each_byte}
 use Rattle.ws_flow.specs.Stages.{digit_met, unhex_byte, odd_end, digit_or_none, digits_in, digits_of, IsPassedOver, DigitsDone, DigitWrong, machine, machines, is_of_end}
 use Rattle.ws_flow.specs.Plans.{as_one, reach}
@@ -173,13 +173,13 @@ unhex = record {
 bad_digit : ending (machines (Unhex ∷ [])) 0 (as_one (codes "0g") Closed) ≡ Bad 2 1
 bad_digit = refl
 
-bad_digit_writes : bytes_of (reach (Unhex ∷ []) (codes "0g") Closed) ≡ told [] Lost
+bad_digit_writes : bytes_of (reach (Unhex ∷ []) (codes "0g") Closed) ≡ told [] Broken
 bad_digit_writes = refl
 
 odd_digits : ending (machines (Unhex ∷ [])) 0 (told ((97 ∷ []) ∷ (98 ∷ []) ∷ (99 ∷ []) ∷ []) Closed) ≡ Bad 3 3
 odd_digits = refl
 
-odd_digits_write : bytes_of (reach (Unhex ∷ []) (codes "aBc") Closed) ≡ told (171 ∷ []) Lost
+odd_digits_write : bytes_of (reach (Unhex ∷ []) (codes "aBc") Closed) ≡ told (171 ∷ []) Broken
 odd_digits_write = refl
 
 feeds_are_passed_over : bytes_of (reach (Unhex ∷ []) (codes "0\r\n1\n2f") Closed) ≡ told (1 ∷ 47 ∷ []) Closed

@@ -9,7 +9,7 @@ use Rattle.hex.proofs.HexLemmas.{length-encode_with}
 use Rattle.ws_flow.specs.declared.plan.Ending.TheVariants.{Fine}
 use Rattle.ws_flow.specs.declared.plan.Stage.{Stage}
 use Rattle.ws_flow.specs.declared.plan.Stage.TheVariants.{Lines, Fixed, Hex, Unhex, Mask, Number, Frame, Unframe}
-use Rattle.ws_flow.specs.Told.{Mark, Open, Closed, Lost, told, then_told, bytes_of}
+use Rattle.ws_flow.specs.Told.{Mark, Open, Closed, Broken, Lost, told, then_told, bytes_of}
 use Rattle.ws_flow.specs.Machines.{more, through, verdict, nothing_kept, chunk_machine}
 use Rattle.ws_flow.specs.Stages.{hex_byte, masked, each_masked, mask_byte, number_push, each_numbered, framed, frame_push, machine, EachTextReadsBack, EachFrameReadsBack, EachMaskTwiceIsNone, EachPairUndoes}
 use Rattle.ws_flow.specs.Plans.{reach}
@@ -21,9 +21,8 @@ use Rattle.ws_flow.proofs.Kind.{each_never_late, IsKind}
 use Rattle.ws_flow.proofs.Texts.{AreTexts, texts_told, text_late, texts_short}
 use Rattle.ws_flow.proofs.Lines.{lines}
 use Rattle.ws_flow.proofs.Blocks.{fixed}
-use Rattle.ws_flow.proofs.Digits.{unhex}
-use Rattle.ws_flow.proofs.Frames.{unframe}
-use Rattle.ws_flow.proofs.Backwards.{unhex_of_hex, unframe_of_frame}
+use Rattle.ws_flow.proofs.Digits.{unhex, unhex_of_hex}
+use Rattle.ws_flow.proofs.Frames.{unframe, unframe_of_frame}
 
 -- `mask`
 
@@ -90,6 +89,7 @@ number_through : (y n : ℕ) (cs : List (List ℕ)) (e : Mark) →
 number_through y n [] Open = (refl, refl)
 number_through y n [] Closed = (refl, refl)
 number_through y n [] Lost = (refl, refl)
+number_through y n [] Broken = (refl, refl)
 number_through y n (c ∷ cs) e =
     let r = number_through y (n + 1) cs e in
     (ap (λ q. then_told (told ((decimal (n + 1) ++ 32 ∷ c) ∷ []) Open) q) r.0, r.1)
@@ -130,6 +130,7 @@ frame_through : (y n : ℕ) (cs : List (List ℕ)) (e : Mark) →
 frame_through y n [] Open = (refl, refl)
 frame_through y n [] Closed = (refl, refl)
 frame_through y n [] Lost = (refl, refl)
+frame_through y n [] Broken = (refl, refl)
 frame_through y n (c ∷ cs) e =
     let r = frame_through y (n + 1) cs e in
     (ap (λ q. then_told (told (framed c ∷ []) Open) q) r.0, r.1)

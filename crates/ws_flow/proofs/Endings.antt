@@ -1,7 +1,7 @@
 use Rattle.std.proofs.Common.{◌≡◌, ◌≢◌, ℕ, zero, suc, List, [], ◌∷◌, refl, sym, ap, ◌∙◌, arith}
-use Rattle.ws_flow.specs.Machines.{Kept, Machine, mark_of, end_mark, more, through, keeps, or_else, verdict, all_through, ending}
+use Rattle.ws_flow.specs.Machines.{Kept, Machine, mark_of, end_mark, more, through, keeps, or_else, verdict, all_through, ending, EndsWell}
 use Rattle.ws_flow.specs.Parts.{AtWork, Part, nothing_told, fresh, LiveAsked, Goes, Flows, said, found}
-use Rattle.ws_flow.specs.Told.{Mark, Open, Closed, Lost, Told, told, goes_on, then_told, IsFront, Begins, IsBefore}
+use Rattle.ws_flow.specs.Told.{Mark, Open, Closed, Broken, Lost, Told, told, goes_on, then_told, IsFront, Begins, IsBefore}
 use Rattle.ws_flow.proofs.Through.{verdict_then, through_before}
 use Rattle.ws_flow.proofs.Told.{before_of_short, before_refl, before_trans, before_then}
 use Rattle.ws_flow.specs.declared.plan.Ending.TheVariants.{Fine, Bad}
@@ -23,6 +23,7 @@ verdict_stays_by : (m : Machine) (k : Kept) (xs : List (List ℕ)) (n : Mark) (y
 verdict_stays_by m k xs Open y e f h l = front_verdict m k xs y.items y.mark e f h l
 verdict_stays_by m k xs Lost y e f h l = front_verdict m k xs y.items y.mark e f (sym (lost_verdict m k xs) ∙ h) l
 verdict_stays_by m k xs Closed y e (a, b) h l = ap (λ q. verdict m k q y.mark) a ∙ ap (λ q. verdict m k xs q) b ∙ h
+verdict_stays_by m k xs Broken y e (a, b) h l = ap (λ q. verdict m k q y.mark) a ∙ ap (λ q. verdict m k xs q) b ∙ h
 
 pub verdict_stays : (m : Machine) (k : Kept) (x y : Told (List ℕ)) (e : Ending) → IsBefore x y → verdict m k x.items x.mark ≡ e → e ≢ Fine → verdict m k y.items y.mark ≡ e
 verdict_stays m k x y e = verdict_stays_by m k x.items x.mark y e
@@ -36,6 +37,7 @@ ending_stays (m ∷ ms) (suc j) x y e h f n = ending_stays ms j (through m m.sta
 work_said : (m : Machine) (xs : List (List ℕ)) (n : Mark) (w : AtWork) (e : Ending) → LiveAsked m m.start xs n w → said w ≡ e → e ≢ Fine → verdict m m.start xs n ≡ e
 work_said m xs Open w e (a, b) f l = grind arith
 work_said m xs Closed w e a f l = sym (ap said a) ∙ f
+work_said m xs Broken w e a f l = elim a [ ]
 work_said m xs Lost w e a f l = sym (ap said a) ∙ f
 
 found_by : (ms : List Machine) (y x : Told (List ℕ)) (ps : List Part) (out : Told (List ℕ)) (j : ℕ) (e : Ending) → Goes ms y (fresh ms) nothing_told ps out → IsBefore y x → found ps j ≡ e → e ≢ Fine → ending ms j x ≡ e
@@ -63,6 +65,7 @@ closed_flush (Bad c p) h = grind arith
 
 closed_through : (m : Machine) (k : Kept) (xs : List (List ℕ)) (n : Mark) → (more m k xs n).mark ≡ Closed → (verdict m k xs n ≡ Fine) × (n ≡ Closed)
 closed_through m k [] Open h = grind arith
+closed_through m k [] Broken h = grind arith
 closed_through m k [] Lost h = grind arith
 closed_through m k [] Closed h = closed_flush (m.flush k).ending h
 closed_through m k (c ∷ cs) n h =
@@ -70,12 +73,12 @@ closed_through m k (c ∷ cs) n h =
     closed_piece (m.push k c).ending (verdict m (m.push k c).kept cs n) n (m.push k c).chunks r.items r.mark h (closed_through m (m.push k c).kept cs n)
 
 -- where the last output closed, the input closed and each stage ended fine
-pub closed_all : (ms : List Machine) (x : Told (List ℕ)) → (all_through ms x).mark ≡ Closed → (x.mark ≡ Closed) × ((j : ℕ) → ending ms j x ≡ Fine)
-closed_all [] x h = (h, λ j. refl)
+pub closed_all : (ms : List Machine) (x : Told (List ℕ)) → (all_through ms x).mark ≡ Closed → EndsWell ms x
+closed_all [] x h = record { closed = h; fine = λ j. refl }
 closed_all (m ∷ ms) x h =
     let r = closed_all ms (through m m.start x) h in
-    let s = closed_through m m.start x.items x.mark r.0 in
-    (s.1, λ j. each j s.0 r.1) where
+    let s = closed_through m m.start x.items x.mark r.closed in
+    record { closed = s.1; fine = λ j. each j s.0 r.fine } where
       each : (j : ℕ) → verdict m m.start x.items x.mark ≡ Fine → ((i : ℕ) → ending ms i (through m m.start x) ≡ Fine) → ending (m ∷ ms) j x ≡ Fine
       each zero a b = a
       each (suc i) a b = b i

@@ -1,9 +1,9 @@
 use Rattle.std.proofs.Common.{◌≡◌, ℕ, true, false, List, sym, ap, ◌∙◌, subst, arith}
-use Rattle.ws_flow.specs.Machines.{all_through, ending}
+use Rattle.ws_flow.specs.Machines.{all_through, ending, EndsWell}
 use Rattle.ws_flow.specs.Parts.{found}
 use Rattle.ws_flow.specs.Plans.{as_one, reach, sees_known_chunks}
 use Rattle.ws_flow.specs.Stages.{machines}
-use Rattle.ws_flow.specs.Told.{bytes_of, Mark, Open, Closed, Lost, Told, told, Begins, IsBefore}
+use Rattle.ws_flow.specs.Told.{bytes_of, Mark, Open, Closed, Broken, Lost, Told, told, Begins, IsBefore}
 use Rattle.ws_flow.proofs.Cutting.{joined_append, some_joined, Same, same_cut}
 use Rattle.ws_flow.proofs.Endings.{closed_all}
 use Rattle.ws_flow.proofs.Nodes.{Node, plan_of, parts_of, Linked, got_before, status_stage}
@@ -25,6 +25,7 @@ bytes_before_by : (xs : List (List ℕ)) (m : Mark) (y : Told (List ℕ)) → Be
 bytes_before_by xs Open y (r, e) = (concat r, ap concat e ∙ joined_append xs r)
 bytes_before_by xs Lost y (r, e) = (concat r, ap concat e ∙ joined_append xs r)
 bytes_before_by xs Closed y (a, b) = (ap concat a, b)
+bytes_before_by xs Broken y (a, b) = (ap concat a, b)
 
 pub bytes_before : (x y : Told (List ℕ)) → IsBefore x y → IsBefore (bytes_of x) (bytes_of y)
 bytes_before x y = bytes_before_by x.items x.mark y
@@ -43,13 +44,14 @@ pub run_stage : (ss : List Stage) (taken : Told ℕ) (ns : List Node) (got : Tol
 run_stage ss taken ns got j c p a r f =
     sym ((cuts_same ss taken ns got a r).endings j) ∙ ap (λ q. ending q j r.cuts) (sym r.stages) ∙ status_stage r.cuts ns r.sunk j c p r.linked f
 
-pub run_done : (ss : List Stage) (taken : Told ℕ) (ns : List Node) (got : Told ℕ) → sees_known_chunks false ss ≡ true → Run ss taken ns got → got.mark ≡ Closed → (bytes_of (reach ss taken.items taken.mark) ≡ got) × (taken.mark ≡ Closed) × ((j : ℕ) → ending (machines ss) j (as_one taken.items taken.mark) ≡ Fine)
+pub run_done : (ss : List Stage) (taken : Told ℕ) (ns : List Node) (got : Told ℕ) → sees_known_chunks false ss ≡ true → Run ss taken ns got → got.mark ≡ Closed → (bytes_of (reach ss taken.items taken.mark) ≡ got) × EndsWell (machines ss) (as_one taken.items taken.mark)
 run_done ss taken ns got a r c =
     let e = closed_same got (bytes_of (reach ss taken.items taken.mark)) (run_got ss taken ns got a r) c in
     let d = closed_all (machines ss) (as_one taken.items taken.mark) (ap (λ q. q.mark) e ∙ c) in
-    (e, d.0, d.1) where
+    (e, d) where
       same_by : (xs : List ℕ) (m : Mark) (y : Told ℕ) → Begins xs m y → m ≡ Closed → y ≡ told xs m
       same_by xs Open y h c = grind arith
+      same_by xs Broken y h c = grind arith
       same_by xs Lost y h c = grind arith
       same_by xs Closed y (a, b) c = grind arith
 

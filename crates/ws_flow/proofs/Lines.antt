@@ -5,7 +5,7 @@ use Rattle.std.specs.List.{All}
 use Rattle.std.proofs.lemmas.List.Elements.{All-nil, All-push}
 use Rattle.ws_flow.specs.declared.plan.Ending.TheVariants.{Fine, Bad}
 use Rattle.ws_flow.specs.declared.plan.Stage.TheVariants.{Lines, Number}
-use Rattle.ws_flow.specs.Told.{Closed, Lost, told}
+use Rattle.ws_flow.specs.Told.{Closed, Broken, told}
 use Rattle.ws_flow.specs.Machines.{Kept, ending, pushed, nothing_kept, with_rest}
 use Rattle.ws_flow.specs.Stages.{IsLine, LinesDone, LineWrong, line_byte, machine, machines}
 use Rattle.ws_flow.specs.Plans.{as_one, reach}
@@ -83,7 +83,7 @@ lines most =
     }
 
 -- a line of exactly the most, and one byte more
-line_at_the_limit : reach (Lines (pos 2) ∷ []) (codes "aa\nend") Closed ≡ told (codes "aa\n" ∷ []) Lost
+line_at_the_limit : reach (Lines (pos 2) ∷ []) (codes "aa\nend") Closed ≡ told (codes "aa\n" ∷ []) Broken
 line_at_the_limit = refl
 
 line_past_the_limit : ending (machines (Lines (pos 2) ∷ Number ∷ [])) 0 (as_one (codes "b\naaa\n") Closed) ≡ Bad 1 4

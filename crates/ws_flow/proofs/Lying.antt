@@ -6,7 +6,7 @@ use Rattle.ws_flow.specs.Parts.{AtWork, Live, Over, Part, nothing_told, fresh, L
 use Rattle.ws_flow.specs.Plans.{is_hex}
 use Rattle.ws_flow.specs.Stages.{is_in_range, machine, machines}
 use Rattle.ws_flow.specs.Steps.{parts_at}
-use Rattle.ws_flow.specs.Told.{Mark, Open, Closed, Lost, Told, goes_on, then_told, IsFront, IsBefore}
+use Rattle.ws_flow.specs.Told.{Mark, Open, Closed, Broken, Lost, Told, goes_on, then_told, IsFront, IsBefore}
 use Rattle.ws_flow.proofs.Chain.{flows_before}
 use Rattle.ws_flow.proofs.Lengths.{chunks_short}
 use Rattle.ws_flow.proofs.Through.{through_before}
@@ -49,6 +49,7 @@ lies_short : (m : Machine) (k : Kept) (xs : List (List ℕ)) (n : Mark) (w : AtW
 lies_short m k xs n (Over e) before a h = tt
 lies_short m k xs Open (Live j) before a h = all_last (λ c. length c < 33554432) xs before.items h
 lies_short m k xs Closed (Live j) before a h = grind arith
+lies_short m k xs Broken (Live j) before a h = elim a [ ]
 lies_short m k xs Lost (Live j) before a h = grind arith
 
 -- from stage to stage: what comes to one is a first part of what the stages before it make of all

@@ -1,6 +1,6 @@
 use Rattle.std.proofs.Common.{◌≡◌, ℕ, true, false, List, [], ◌∷◌, ◌++◌, refl, sym, ap, ◌∙◌, subst}
 use Rattle.ws_flow.specs.Chains.{Way, Host, Row, Came, Went, Member, Keeps, all_stages, all_parts, Onward, Chained}
-use Rattle.ws_flow.specs.Machines.{ending}
+use Rattle.ws_flow.specs.Machines.{ending, EndsWell}
 use Rattle.ws_flow.specs.Parts.{found}
 use Rattle.ws_flow.specs.Plans.{as_one, reach, sees_known_chunks}
 use Rattle.ws_flow.specs.Rows.{told_by}
@@ -63,5 +63,5 @@ chain_got taken ms got a c = let r = ran taken ms got c in run_got (all_stages m
 pub chain_stage : (taken : Told ℕ) (ms : List Member) (got : Told ℕ) (j c p : ℕ) → sees_known_chunks false (all_stages ms) ≡ true → Chained taken ms got → found (all_parts ms) j ≡ Bad c p → ending (machines (all_stages ms)) j (as_one taken.items taken.mark) ≡ Bad c p
 chain_stage taken ms got j c p a h f = let r = ran taken ms got h in run_stage (all_stages ms) taken r.nodes got j c p a r.run (ap (λ q. found q j) r.parts ∙ f)
 
-pub chain_done : (taken : Told ℕ) (ms : List Member) (got : Told ℕ) → sees_known_chunks false (all_stages ms) ≡ true → Chained taken ms got → got.mark ≡ Closed → (bytes_of (reach (all_stages ms) taken.items taken.mark) ≡ got) × (taken.mark ≡ Closed) × ((j : ℕ) → ending (machines (all_stages ms)) j (as_one taken.items taken.mark) ≡ Fine)
+pub chain_done : (taken : Told ℕ) (ms : List Member) (got : Told ℕ) → sees_known_chunks false (all_stages ms) ≡ true → Chained taken ms got → got.mark ≡ Closed → (bytes_of (reach (all_stages ms) taken.items taken.mark) ≡ got) × EndsWell (machines (all_stages ms)) (as_one taken.items taken.mark)
 chain_done taken ms got a h c = let r = ran taken ms got h in run_done (all_stages ms) taken r.nodes got a r.run c

@@ -1,7 +1,7 @@
 use Rattle.std.proofs.Common.{◌≡◌, ◌≢◌, ℕ, zero, suc, List, [], ◌∷◌, ◌++◌, sym, ap, ◌∙◌, subst, arith}
-use Rattle.ws_flow.specs.Machines.{Machine, through, all_through, ending}
+use Rattle.ws_flow.specs.Machines.{Machine, through, all_through, ending, EndsWell}
 use Rattle.ws_flow.specs.Parts.{Part, nothing_told, fresh, Goes, Flows, found}
-use Rattle.ws_flow.specs.Told.{Mark, Open, Closed, Lost, Told, told, then_told, Begins, IsBefore}
+use Rattle.ws_flow.specs.Told.{Mark, Open, Closed, Broken, Lost, Told, told, then_told, Begins, IsBefore}
 use Rattle.ws_flow.proofs.Chain.{flows_before}
 use Rattle.ws_flow.proofs.Endings.{ending_stays, flows_found, closed_all}
 use Rattle.ws_flow.proofs.Through.{all_before, all_append}
@@ -68,13 +68,14 @@ pub status_stage : (x : Told (List ℕ)) (ns : List Node) (got : Told (List ℕ)
 status_stage x ns got j c p l f = linked_found x x ns got (Bad c p) (before_refl x) l (λ e. grind arith) j f
 
 -- where the sink was finished, it got all, the input closed and each stage ended fine
-pub status_done : (x : Told (List ℕ)) (ns : List Node) (got : Told (List ℕ)) → Linked x ns got → got.mark ≡ Closed → (all_through (plan_of ns) x ≡ got) × (x.mark ≡ Closed) × ((j : ℕ) → ending (plan_of ns) j x ≡ Fine)
+pub status_done : (x : Told (List ℕ)) (ns : List Node) (got : Told (List ℕ)) → Linked x ns got → got.mark ≡ Closed → (all_through (plan_of ns) x ≡ got) × EndsWell (plan_of ns) x
 status_done x ns got l c =
     let e = closed_same got (all_through (plan_of ns) x) (got_before x ns got l) c in
     let r = closed_all (plan_of ns) x (ap (λ q. q.mark) e ∙ c) in
-    (e, r.0, r.1) where
+    (e, r) where
       same_by : (xs : List (List ℕ)) (m : Mark) (y : Told (List ℕ)) → Begins xs m y → m ≡ Closed → y ≡ told xs m
       same_by xs Open y h c = grind arith
+      same_by xs Broken y h c = grind arith
       same_by xs Lost y h c = grind arith
       same_by xs Closed y (a, b) c = grind arith
 

@@ -5,7 +5,7 @@ use Rattle.std.proofs.lemmas.Bool.{and_parts}
 use Rattle.ws_flow.specs.declared.plan.Ending.{Ending}
 use Rattle.ws_flow.specs.declared.plan.Ending.TheVariants.{Fine, Bad}
 use Rattle.ws_flow.specs.declared.plan.Stage.{Stage}
-use Rattle.ws_flow.specs.Told.{Mark, Open, Closed, Lost, Told, goes_on}
+use Rattle.ws_flow.specs.Told.{Mark, Open, Closed, Broken, Lost, Told, goes_on}
 use Rattle.ws_flow.specs.Machines.{Kept, Machine, Pushed, mark_of, more, through, added, each_byte, some_chunk}
 use Rattle.ws_flow.specs.Stages.{machine, is_within, Gives}
 
@@ -28,6 +28,7 @@ pub more_short : (m : Machine) (n b : ℕ) (I : Kept → Type 0) →
     ((k : Kept) → I k → EachShort b (m.flush k).chunks) →
     (k : Kept) (cs : List (List ℕ)) (e : Mark) → I k → EachShort n cs → EachShort b (more m k cs e).items
 more_short m n b I p f k [] Open i h = tt
+more_short m n b I p f k [] Broken i h = tt
 more_short m n b I p f k [] Lost i h = tt
 more_short m n b I p f k [] Closed i h = f k i
 more_short m n b I p f k (c ∷ cs) e i (l, h) =

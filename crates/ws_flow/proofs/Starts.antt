@@ -3,7 +3,7 @@ use Rattle.std.proofs.Common.{◌≡◌, ℕ, true, false, List, [], ◌∷◌, 
 use Rattle.ws_flow.specs.declared.plan.Ending.{Ending}
 use Rattle.ws_flow.specs.declared.plan.Ending.TheVariants.{Fine, Bad}
 use Rattle.ws_flow.specs.declared.plan.Stage.{Stage}
-use Rattle.ws_flow.specs.Told.{Mark, Open, Closed, Lost}
+use Rattle.ws_flow.specs.Told.{Mark, Open, Closed, Broken, Lost}
 use Rattle.ws_flow.specs.Machines.{Kept, or_else, verdict, nothing_kept, Form, OfBytes, OfChunks, machine_of}
 use Rattle.ws_flow.specs.Stages.{form, machine, is_of_end}
 use Rattle.ws_flow.proofs.EachKind.{kind}
@@ -17,6 +17,7 @@ start_is s = by (form s) where
 -- where it ended with a code of the end, what came to it is all
 pub end_closed : (s : Stage) (k : Kept) (xs : List (List ℕ)) (a : Mark) (code place : ℕ) → verdict (machine s) k xs a ≡ Bad code place → is_of_end code ≡ true → a ≡ Closed
 end_closed s k [] Open code place e f = grind arith
+end_closed s k [] Broken code place e f = grind arith
 end_closed s k [] Lost code place e f = grind arith
 end_closed s k [] Closed code place e f = refl
 end_closed s k (c ∷ cs) a code place e f =

@@ -1,9 +1,9 @@
 -- Each step of works and of what lies between them lets the parts go on.
 use Rattle.std.proofs.Common.{◌≡◌, ◌≢◌, ℕ, suc, ◌+◌, ◌<◌, ◌≤◌, List, [], ◌∷◌, ◌++◌, length, refl, sym, ap, ◌∙◌, subst, append-nil, arith}
-use Rattle.ws_flow.specs.Machines.{Kept, Machine, mark_of, end_mark, at_end, or_else}
+use Rattle.ws_flow.specs.Machines.{Kept, Machine, asked_mark, mark_of, end_mark, at_end, or_else}
 use Rattle.ws_flow.specs.Parts.{AtWork, Live, Over, Part, nothing_told, LiveAsked, made, Goes, found}
 use Rattle.ws_flow.specs.Steps.{before_work, parts_at, behind_of, work_after, coming_end, coming_from}
-use Rattle.ws_flow.specs.Told.{Open, Closed, Lost, Told, told, goes_on, then_told, IsFront, IsShortOf}
+use Rattle.ws_flow.specs.Told.{Open, Closed, Broken, Lost, Told, told, goes_on, then_told, IsFront, IsShortOf}
 use Rattle.ws_flow.proofs.Events.{not_asked, nothing_made}
 use Rattle.ws_flow.proofs.Told.{then_empty, short_refl, short_as, before_of_short, before_front, front_trans}
 use Rattle.ws_flow.specs.declared.plan.Ending.TheVariants.{Fine, Bad}
@@ -108,18 +108,18 @@ goes_same [] (p ∷ ps) out l = grind arith
 goes_same (m ∷ ms) [] out l = grind arith
 
 -- a push
-pub push_asked : (m : Machine) (k : Kept) (c : List ℕ) → LiveAsked m k (c ∷ []) (mark_of (m.push k c).ending) (work_after (m.push k c).ending (m.push k c).kept)
+pub push_asked : (m : Machine) (k : Kept) (c : List ℕ) → LiveAsked m k (c ∷ []) (asked_mark (m.push k c).ending) (work_after (m.push k c).ending (m.push k c).kept)
 push_asked m k c = by (m.push k c).ending refl where
-  by : (e : Ending) → e ≡ (m.push k c).ending → LiveAsked m k (c ∷ []) (mark_of e) (work_after e (m.push k c).kept)
+  by : (e : Ending) → e ≡ (m.push k c).ending → LiveAsked m k (c ∷ []) (asked_mark e) (work_after e (m.push k c).kept)
   by Fine h = (refl, ap (λ q. or_else q Fine) (sym h))
   by (Bad n p) h = ap (λ q. Over (or_else q Fine)) h
 
 pub push_made : (m : Machine) (k : Kept) (c : List ℕ) →
-    made m (Live k) (told (c ∷ []) (mark_of (m.push k c).ending)) ≡ then_told (told (m.push k c).chunks Open) (coming_from (work_after (m.push k c).ending (m.push k c).kept))
+    made m (Live k) (told (c ∷ []) (asked_mark (m.push k c).ending)) ≡ then_told (told (m.push k c).chunks Open) (coming_from (work_after (m.push k c).ending (m.push k c).kept))
 push_made m k c = by (m.push k c).chunks (m.push k c).ending (m.push k c).kept where
-  by : (cs : List (List ℕ)) (e : Ending) (r : Kept) → goes_on cs (mark_of e) (at_end m r (mark_of e)) ≡ then_told (told cs Open) (coming_from (work_after e r))
+  by : (cs : List (List ℕ)) (e : Ending) (r : Kept) → goes_on cs (mark_of e) (at_end m r (asked_mark e)) ≡ then_told (told cs Open) (coming_from (work_after e r))
   by cs Fine r = refl
-  by cs (Bad n p) r = ap (λ q. told q Lost) (sym (append-nil cs))
+  by cs (Bad n p) r = ap (λ q. told q Broken) (sym (append-nil cs))
 
 front_lies : (xs : List (List ℕ)) (z x : Told (List ℕ)) → IsShortOf (then_told (told xs Open) z) x → IsFront xs x.items
 front_lies xs z x h =
@@ -128,7 +128,7 @@ front_lies xs z x h =
 
 -- what lay there was the chunk, and then z
 pub push_lies : (e : Ending) (k : Kept) (c : List ℕ) (z x : Told (List ℕ)) → IsShortOf (then_told (told (c ∷ []) Open) z) x →
-    IsShortOf (then_told (told (c ∷ []) (mark_of e)) (before_work (work_after e k) z)) x
+    IsShortOf (then_told (told (c ∷ []) (asked_mark e)) (before_work (work_after e k) z)) x
 push_lies Fine k c z x h = h
 push_lies (Bad n p) k c z x h = front_lies (c ∷ []) z x h
 
@@ -140,7 +140,7 @@ pub flush_made : (m : Machine) (k : Kept) → made m (Live k) (told [] Closed) �
 flush_made m k = by (m.flush k).chunks (m.flush k).ending where
   by : (cs : List (List ℕ)) (e : Ending) → told cs (end_mark e) ≡ then_told (told cs Open) (coming_end e)
   by cs Fine = ap (λ q. told q Closed) (sym (append-nil cs))
-  by cs (Bad n p) = ap (λ q. told q Lost) (sym (append-nil cs))
+  by cs (Bad n p) = ap (λ q. told q Broken) (sym (append-nil cs))
 
 pub flush_lies : (v : AtWork) (z w x : Told (List ℕ)) → IsShortOf (then_told (told [] Closed) z) x → IsShortOf (then_told (told [] Closed) (before_work v w)) x
 flush_lies v z w x h = h
@@ -166,7 +166,7 @@ pub goes_pushes : (ms : List Machine) (m : Machine) (ns : List Machine) (k : ℕ
     (behind_of k (before ++ work_after (m.push kept c).ending (m.push kept c).kept ∷ after) y)
 goes_pushes ms m ns k before kept c after x y j e l r s n h =
     let p = m.push kept c in
-    goes_asks ms m ns k before kept (work_after p.ending p.kept) after x y (told (c ∷ []) (mark_of p.ending)) j e l r
+    goes_asks ms m ns k before kept (work_after p.ending p.kept) after x y (told (c ∷ []) (asked_mark p.ending)) j e l r
     (push_asked m kept c) (push_lies p.ending p.kept c (y j) (x j) s)
     (subst (λ q. IsShortOf (y (suc j)) (then_told (x (suc j)) q)) (sym (push_made m kept c)) n) h
 

@@ -1,6 +1,6 @@
 use Rattle.std.proofs.Common.{◌≡◌, ℕ, List, [], ◌∷◌, ◌++◌, refl, sym, ap, ◌∙◌, subst}
 use Rattle.ws_flow.specs.Machines.{Kept, Machine, end_mark, piece, more, through, keeps, or_else, verdict, all_through}
-use Rattle.ws_flow.specs.Told.{Mark, Open, Closed, Lost, Told, told, goes_on, then_told, IsFront, CutShort, IsShortOf, Begins, IsBefore}
+use Rattle.ws_flow.specs.Told.{Mark, Open, Closed, Broken, Lost, Told, told, goes_on, then_told, IsFront, CutShort, IsShortOf, Begins, IsBefore}
 use Rattle.ws_flow.proofs.Told.{then_assoc, short_refl, short_left, before_of_short, before_refl, before_trans, before_then}
 use Rattle.ws_flow.specs.declared.plan.Ending.TheVariants.{Fine, Bad}
 use Rattle.ws_flow.specs.declared.plan.Ending.{Ending}
@@ -32,6 +32,10 @@ pub after_end : (m : Machine) (k : Kept) (cs : List (List ℕ)) (y : Told (List 
 after_end m k [] y = refl
 after_end m k (c ∷ cs) y = then_assoc (piece (m.push k c)) (more m (m.push k c).kept cs Lost) y ∙ ap (λ q. then_told (piece (m.push k c)) q) (after_end m (m.push k c).kept cs y)
 
+pub after_break : (m : Machine) (k : Kept) (cs : List (List ℕ)) (y : Told (List ℕ)) → then_told (more m k cs Broken) y ≡ more m k cs Broken
+after_break m k [] y = refl
+after_break m k (c ∷ cs) y = then_assoc (piece (m.push k c)) (more m (m.push k c).kept cs Broken) y ∙ ap (λ q. then_told (piece (m.push k c)) q) (after_break m (m.push k c).kept cs y)
+
 flushed_end : (xs : List (List ℕ)) (e : Ending) (y : Told (List ℕ)) → goes_on xs (end_mark e) y ≡ told xs (end_mark e)
 flushed_end xs Fine y = refl
 flushed_end xs (Bad c p) y = refl
@@ -43,6 +47,7 @@ after_close m k (c ∷ cs) y = then_assoc (piece (m.push k c)) (more m (m.push k
 through_by : (m : Machine) (k : Kept) (xs : List (List ℕ)) (n : Mark) (y : Told (List ℕ)) → through m k (goes_on xs n y) ≡ then_told (more m k xs n) (through m (keeps m k xs) y)
 through_by m k xs Open y = more_append m k xs y.items y.mark
 through_by m k xs Closed y = sym (after_close m k xs (through m (keeps m k xs) y))
+through_by m k xs Broken y = sym (after_break m k xs (through m (keeps m k xs) y))
 through_by m k xs Lost y = sym (after_end m k xs (through m (keeps m k xs) y))
 
 pub through_then : (m : Machine) (k : Kept) (x y : Told (List ℕ)) → through m k (then_told x y) ≡ then_told (through m k x) (through m (keeps m k x.items) y)
@@ -59,6 +64,7 @@ lost_as_open m k (c ∷ cs) = short_left (piece (m.push k c)) (more m (m.push k 
 through_before_by : (m : Machine) (k : Kept) (xs : List (List ℕ)) (n : Mark) (y : Told (List ℕ)) → Begins xs n y → IsBefore (more m k xs n) (through m k y)
 through_before_by m k xs Open y f = open_before m k xs y.items y.mark f
 through_before_by m k xs Closed y (a, b) = subst (λ q. IsBefore (more m k xs Closed) (more m k q y.mark)) (sym a) (subst (λ q. IsBefore (more m k xs Closed) (more m k xs q)) (sym b) (before_refl (more m k xs Closed)))
+through_before_by m k xs Broken y (a, b) = subst (λ q. IsBefore (more m k xs Broken) (more m k q y.mark)) (sym a) (subst (λ q. IsBefore (more m k xs Broken) (more m k xs q)) (sym b) (before_refl (more m k xs Broken)))
 through_before_by m k xs Lost y f = before_trans (more m k xs Lost) (more m k xs Open) (through m k y) (before_of_short (more m k xs Lost) (more m k xs Open) (lost_as_open m k xs)) (open_before m k xs y.items y.mark f)
 
 pub through_before : (m : Machine) (k : Kept) (x y : Told (List ℕ)) → IsBefore x y → IsBefore (through m k x) (through m k y)
@@ -72,6 +78,7 @@ lost_short m k (c ∷ cs) r e = short_left (piece (m.push k c)) (more m (m.push 
 through_short_by : (m : Machine) (k : Kept) (xs : List (List ℕ)) (n : Mark) (y : Told (List ℕ)) → CutShort xs n y → IsShortOf (more m k xs n) (through m k y)
 through_short_by m k xs Open y (a, b) = subst (λ q. IsShortOf (more m k xs Open) (more m k q y.mark)) (sym a) (subst (λ q. IsShortOf (more m k xs Open) (more m k xs q)) (sym b) (short_refl (more m k xs Open)))
 through_short_by m k xs Closed y (a, b) = subst (λ q. IsShortOf (more m k xs Closed) (more m k q y.mark)) (sym a) (subst (λ q. IsShortOf (more m k xs Closed) (more m k xs q)) (sym b) (short_refl (more m k xs Closed)))
+through_short_by m k xs Broken y (a, b) = subst (λ q. IsShortOf (more m k xs Broken) (more m k q y.mark)) (sym a) (subst (λ q. IsShortOf (more m k xs Broken) (more m k xs q)) (sym b) (short_refl (more m k xs Broken)))
 through_short_by m k xs Lost y (r, f) = subst (λ q. IsShortOf (more m k xs Lost) (more m k q y.mark)) (sym f) (lost_short m k xs r y.mark)
 
 pub through_short : (m : Machine) (k : Kept) (x y : Told (List ℕ)) → IsShortOf x y → IsShortOf (through m k x) (through m k y)

@@ -6,7 +6,7 @@ use Rattle.ws_flow.specs.declared.plan.Ending.TheVariants.{Fine, Bad}
 use Rattle.ws_flow.specs.declared.plan.Plan.{Plan}
 use Rattle.ws_flow.specs.declared.plan.Stage.{Stage}
 use Rattle.ws_flow.specs.Told.{Mark, Open, Closed, Lost, Told, then_told, IsShortOf, IsBefore, bytes_of}
-use Rattle.ws_flow.specs.Machines.{Machine, Kept, Pushed, piece, at_end, through, keeps, or_else, end_verdict, verdict, all_through, ending, nothing_kept, each_byte, Packing, AsCut, byte_machine}
+use Rattle.ws_flow.specs.Machines.{Machine, Kept, Pushed, piece, at_end, through, keeps, or_else, end_verdict, verdict, all_through, ending, EndsWell, nothing_kept, each_byte, Packing, AsCut, byte_machine}
 use Rattle.ws_flow.specs.Stages.{machines, IsTold, is_in_range}
 use Rattle.ws_flow.specs.Plans.{as_one, reach, sees_known_chunks, stages_of, is_hex, are_numbers_within, are_in_order, each_has_stage, refusal}
 use Rattle.ws_flow.specs.Parts.{AtWork, Live, Over, Part, Goes, Flows, residual, found}
@@ -29,7 +29,7 @@ EachEndingStays =
 
 abbrev pub EachCloseIsWhole : Type 0
 EachCloseIsWhole =
-    (ms : List Machine) (x : Told (List ℕ)) → (all_through ms x).mark ≡ Closed → (x.mark ≡ Closed) × ((j : ℕ) → ending ms j x ≡ Fine)
+    (ms : List Machine) (x : Told (List ℕ)) → (all_through ms x).mark ≡ Closed → EndsWell ms x
 
 abbrev pub EachCuttingIsAlike : Type 0
 EachCuttingIsAlike =
@@ -74,8 +74,7 @@ abbrev pub EachFinishIsWhole : Type 0
 EachFinishIsWhole =
     (taken : Told ℕ) (ms : List Member) (got : Told ℕ) → sees_known_chunks false (all_stages ms) ≡ true → Chained taken ms got →
     got.mark ≡ Closed →
-    (bytes_of (reach (all_stages ms) taken.items taken.mark) ≡ got) × (taken.mark ≡ Closed) ×
-    ((j : ℕ) → ending (machines (all_stages ms)) j (as_one taken.items taken.mark) ≡ Fine)
+    (bytes_of (reach (all_stages ms) taken.items taken.mark) ≡ got) × EndsWell (machines (all_stages ms)) (as_one taken.items taken.mark)
 
 abbrev pub EachInputIsOne : Type 0
 EachInputIsOne =

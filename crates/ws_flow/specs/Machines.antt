@@ -1,9 +1,9 @@
 -- A stage as a machine: what it keeps, what comes out of a chunk, and what the end adds. Most are told byte by byte.
-use Rattle.std.specs.Prelude.{ℕ, zero, suc, ◌+◌, List, [], ◌∷◌, ◌++◌}
+use Rattle.std.specs.Prelude.{◌≡◌, ℕ, zero, suc, ◌+◌, List, [], ◌∷◌, ◌++◌}
 use Rattle.std.specs.List.{concat}
 use Rattle.ws_flow.specs.declared.plan.Ending.{Ending}
 use Rattle.ws_flow.specs.declared.plan.Ending.TheVariants.{Fine, Bad}
-use Rattle.ws_flow.specs.Told.{Mark, Open, Closed, Lost, Told, told, then_told}
+use Rattle.ws_flow.specs.Told.{Mark, Open, Closed, Broken, Lost, Told, told, then_told}
 
 -- what a stage remembers: the bytes of its input that aren't done with, the number of its input's bytes, and that of its chunks.
 -- A stage that sees bytes counts bytes, and one that sees chunks counts chunks
@@ -22,21 +22,27 @@ pub record Machine : Type 0 where
   pub push : Kept → List ℕ → Pushed
   pub flush : Kept → Pushed
 
--- what comes out goes on after a chunk that was fine
+-- what comes out goes on after a chunk that was fine, and breaks off behind one that was bad
 abbrev pub mark_of : Ending → Mark
 mark_of Fine = Open
-mark_of (Bad c p) = Lost
+mark_of (Bad c p) = Broken
 
 -- and is all after an end that was fine
 abbrev pub end_mark : Ending → Mark
 end_mark Fine = Closed
-end_mark (Bad c p) = Lost
+end_mark (Bad c p) = Broken
+
+-- of what a stage was asked for one chunk: behind one that was bad it is asked for nothing, and what lies there is lost
+abbrev pub asked_mark : Ending → Mark
+asked_mark Fine = Open
+asked_mark (Bad c p) = Lost
 
 abbrev pub piece : Pushed → Told (List ℕ)
 piece p = told p.chunks (mark_of p.ending)
 
 abbrev pub at_end : Machine → Kept → Mark → Told (List ℕ)
 at_end m k Open = told [] Open
+at_end m k Broken = told [] Broken
 at_end m k Lost = told [] Lost
 at_end m k Closed = told (m.flush k).chunks (end_mark (m.flush k).ending)
 
@@ -59,6 +65,7 @@ or_else (Bad c p) e = Bad c p
 
 abbrev pub end_verdict : Machine → Kept → Mark → Ending
 end_verdict m k Open = Fine
+end_verdict m k Broken = Fine
 end_verdict m k Lost = Fine
 end_verdict m k Closed = (m.flush k).ending
 
@@ -77,6 +84,11 @@ abbrev pub ending : List Machine → ℕ → Told (List ℕ) → Ending
 ending [] j x = Fine
 ending (m ∷ ms) zero x = verdict m m.start x.items x.mark
 ending (m ∷ ms) (suc j) x = ending ms j (through m m.start x)
+
+-- what came into the first closed, and each stage ended fine
+pub record EndsWell (ms : List Machine) (x : Told (List ℕ)) : Type 0 where
+  pub closed : x.mark ≡ Closed
+  pub fine : (j : ℕ) → ending ms j x ≡ Fine
 
 -- Machines that are told byte by byte, or chunk by chunk
 

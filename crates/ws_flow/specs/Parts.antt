@@ -2,7 +2,7 @@
 use Rattle.std.specs.Prelude.{◌≡◌, ℕ, zero, suc, List, [], ◌∷◌}
 use Rattle.ws_flow.specs.declared.plan.Ending.{Ending}
 use Rattle.ws_flow.specs.declared.plan.Ending.TheVariants.{Fine}
-use Rattle.ws_flow.specs.Told.{Mark, Open, Closed, Lost, Told, told, then_told, IsShortOf}
+use Rattle.ws_flow.specs.Told.{Mark, Open, Closed, Broken, Lost, Told, told, then_told, IsShortOf}
 use Rattle.ws_flow.specs.Machines.{Machine, Kept, through, keeps, verdict}
 
 -- a stage at work: it may be asked, or it ended and isn't asked again
@@ -22,10 +22,11 @@ abbrev pub fresh : List Machine → List Part
 fresh [] = []
 fresh (m ∷ ms) = record { work = Live m.start; before = nothing_told } ∷ fresh ms
 
--- a work that was asked for these: it goes on only where each push ended fine, and not after the flush
+-- a work that was asked for these: it goes on only where each push ended fine, and not after the flush. Of an input that broke off it is told nothing
 abbrev pub LiveAsked : Machine → Kept → List (List ℕ) → Mark → AtWork → Type 0
 LiveAsked m k xs Open w = (w ≡ Live (keeps m k xs)) × (verdict m k xs Open ≡ Fine)
 LiveAsked m k xs Closed w = w ≡ Over (verdict m k xs Closed)
+LiveAsked m k xs Broken w = ⊥
 LiveAsked m k xs Lost w = w ≡ Over (verdict m k xs Lost)
 
 -- an ended one isn't asked

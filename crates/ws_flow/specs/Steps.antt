@@ -2,7 +2,7 @@
 use Rattle.std.specs.Prelude.{ℕ, suc, List, [], ◌∷◌}
 use Rattle.ws_flow.specs.declared.plan.Ending.{Ending}
 use Rattle.ws_flow.specs.declared.plan.Ending.TheVariants.{Fine, Bad}
-use Rattle.ws_flow.specs.Told.{Open, Closed, Lost, Told, told}
+use Rattle.ws_flow.specs.Told.{Open, Closed, Broken, Lost, Told, told}
 use Rattle.ws_flow.specs.Machines.{Kept}
 use Rattle.ws_flow.specs.Parts.{AtWork, Live, Over, Part}
 
@@ -29,7 +29,7 @@ work_after (Bad c p) k = Over (Bad c p)
 -- how what comes out of a work goes on after what it made
 abbrev pub coming_end : Ending → Told (List ℕ)
 coming_end Fine = told [] Closed
-coming_end (Bad c p) = told [] Lost
+coming_end (Bad c p) = told [] Broken
 
 abbrev pub coming_from : AtWork → Told (List ℕ)
 coming_from (Live k) = told [] Open
