@@ -13,7 +13,7 @@ use Rattle.ws_flow.specs.declared.plan.Stage.{Stage as StageOf}
 use Rattle.ws_flow.specs.Machines.{all_through, ending, some_chunk}
 use Rattle.ws_flow.specs.Plans.{as_one, reach, refusal, sees_known_chunks, stages_of}
 use Rattle.ws_flow.specs.Stages.{machines}
-use Rattle.ws_flow.specs.Told.{bytes_of, Mark, Open, Closed, Lost, Told, told, IsBefore, IsFront}
+use Rattle.ws_flow.specs.Told.{bytes_of, Mark, Open, Closed, Broken, Lost, Told, told, IsBefore, IsFront}
 use Rattle.ws_flow.proofs.Cutting.{joined_append, some_joined, same_cut}
 use Rattle.ws_flow.proofs.Endings.{ending_stays}
 use Rattle.ws_flow.proofs.Headline.{bytes_before}
@@ -43,6 +43,7 @@ all_taken (Some f) (Some g) taken bytes has fed none =
 read_before : (m : Mark) (old new : Moment) (taken bytes : List ℕ) → HasLeft old.feed bytes → Fed old.feed new.feed taken → ReadAs m old new
     → IsBefore (told taken m) (told bytes Closed)
 read_before Open old new taken bytes has fed read = front_taken old.feed new.feed taken bytes has fed
+read_before Broken old new taken bytes has fed read = elim read [ ]
 read_before Lost old new taken bytes has fed read = front_taken old.feed new.feed taken bytes has fed
 read_before Closed old new taken bytes has fed read = (all_taken old.feed new.feed taken bytes has fed read.emptied, refl)
 
@@ -62,6 +63,7 @@ cut_front taken bytes rest e =
 cut_after : (taken bytes : List ℕ) (m : Mark) → IsBefore (told taken m) (told bytes Closed) → CutAfter taken bytes m
 cut_after taken bytes Open (rest, e) =
     record { cut = told (some_chunk taken ++ some_chunk rest) Closed; before = (some_chunk rest, refl); same = cut_front taken bytes rest e }
+cut_after taken bytes Broken (e, broken) = absurd (cc)
 cut_after taken bytes Lost (rest, e) =
     record { cut = told (some_chunk taken ++ some_chunk rest) Closed; before = (some_chunk rest, refl); same = cut_front taken bytes rest e }
 cut_after taken bytes Closed (e, closed) =

@@ -29,7 +29,7 @@ use Rattle.ws_steps.specs.Run.{Entry, Called, Worked, Heard, step, run}
 use Rattle.ws_steps.specs.Slots.{Slots}
 use Rattle.ws_steps.specs.Writable as writable
 use Rattle.ws_steps.specs.WritableHistory.{todo}
-use Rattle.ws_flow.specs.Told.{Mark, Open, Closed, Lost, Told, told, goes_on, then_told, IsShortOf}
+use Rattle.ws_flow.specs.Told.{Mark, Open, Closed, Broken, Lost, Told, told, goes_on, then_told, IsShortOf}
 use Rattle.ws_flow.proofs.Told.{then_assoc, then_empty, before_of_short, before_front}
 use Rattle.ws_link_laws.specs.Link as link
 use Rattle.ws_link_laws.specs.Link.{Ear, OfPort, Giver, OfSource, OfByteSource, OfHalf, OfEnd, silence, lets_in, is_end, delivered, enters, heard_of, heard_post, unheard, todo_of, before_todo, sink_by, in_sink}
@@ -61,6 +61,7 @@ cl-right (x ∷ xs) ys a = cl-right xs ys a.1
 cl-goes : (xs : List Value) (m : Mark) (y : Told Value) → Cl xs → Cl y.items → Cl (goes_on xs m y).items
 cl-goes xs Open y a b = cl-append xs y.items a b
 cl-goes xs Closed y a b = a
+cl-goes xs Broken y a b = a
 cl-goes xs Lost y a b = a
 
 cl-then : (x y : Told Value) → Cl x.items → Cl y.items → Cl (then_told x y).items
@@ -73,6 +74,7 @@ cl-first x y a = by x.mark a
     by : (m : Mark) → Cl (goes_on x.items m y).items → Cl x.items
     by Open a = cl-left x.items y.items a
     by Closed a = a
+    by Broken a = a
     by Lost a = a
 
 -- the second of two, where more may come after the first

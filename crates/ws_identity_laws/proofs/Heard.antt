@@ -10,7 +10,7 @@ use Rattle.ws_steps.specs.ReadableHistory.{Flow, no_flow, flow_then, effect_flow
 use Rattle.ws_steps.specs.Run.{Entry, run, step}
 use Rattle.ws_steps.specs.Slots.{Slots, empty, has_readable, has_byte, has_source, has_writable, owner_at, readable_at}
 use Rattle.ws_steps.specs.WritableHistory.{Writes, no_writes, writes_then, step_writes, run_writes, heard_writes, heard_closes}
-use Rattle.ws_flow.specs.Told.{Mark, Open, Closed, Lost, Told, told, then_told, IsFront, IsShortOf}
+use Rattle.ws_flow.specs.Told.{Mark, Open, Closed, Broken, Lost, Told, told, then_told, IsFront, IsShortOf}
 use Rattle.ws_laws.proofs.Walker.{IsHistory}
 use Rattle.ws_readable_laws.proofs.Accepted.{entered_was_accepted}
 use Rattle.ws_writable_laws.proofs.Heard.{acted_was_heard}
@@ -74,11 +74,13 @@ default-stays i entries s there none = by (has_byte i (run entries s)) refl
 short-front : (x : Told Value) (m : Mark) (y : Told Value) → m ≡ x.mark → IsShortOf x y → IsFront x.items y.items
 short-front x Open y e h = let k : (y.items ≡ x.items) × (y.mark ≡ Open) = rw (← e) at h in ([], k.0 ∙ sym (append-nil x.items))
 short-front x Closed y e h = let k : (y.items ≡ x.items) × (y.mark ≡ Closed) = rw (← e) at h in ([], k.0 ∙ sym (append-nil x.items))
+short-front x Broken y e h = let k : (y.items ≡ x.items) × (y.mark ≡ Broken) = rw (← e) at h in ([], k.0 ∙ sym (append-nil x.items))
 short-front x Lost y e h = let k : IsFront x.items y.items = rw (← e) at h in k
 
 front-of : (vs : List Value) (m : Mark) (z y : Told Value) → IsShortOf (then_told (told vs m) z) y → IsPrefixOf vs y.items
 front-of vs Open z y h = let f = short-front (told (vs ++ z.items) z.mark) z.mark y refl h in (z.items ++ f.0, sym (append_assoc vs z.items f.0) ∙ sym f.1)
 front-of vs Closed z y h = ([], append-nil vs ∙ sym h.0)
+front-of vs Broken z y h = ([], append-nil vs ∙ sym h.0)
 front-of vs Lost z y h = (h.0, sym h.1)
 
 module _ (xs entries : List Entry) (i : StreamId) (p : PipeId) (ms : List Middle) (k : StreamId) (u : IsUnused i p ms k xs) (l : all_leave_way i ms k entries ≡ true) (source : has_source i (run xs empty) ≡ true) (sink : has_writable k (run xs empty) ≡ true) where

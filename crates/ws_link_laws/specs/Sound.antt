@@ -29,7 +29,7 @@ use Rattle.ws_steps.specs.Readable as readable
 use Rattle.ws_steps.specs.Run.{Entry, run}
 use Rattle.ws_steps.specs.Slots.{Slots, Stream, empty, has_source, has_writable, has_signal, owner_at, byte_at, source_at, writable_at, transform_at, pipe_at}
 use Rattle.ws_steps.specs.Writable as writable
-use Rattle.ws_flow.specs.Told.{Mark, Open, Closed as ToldClosed, Lost}
+use Rattle.ws_flow.specs.Told.{Mark, Open, Closed as ToldClosed, Broken, Lost}
 use Rattle.ws_pipe_laws.specs.PipeReads.{is_of, in_stream, in_streams}
 use Rattle.ws_link_laws.specs.Link.{todo_of}
 
@@ -70,6 +70,7 @@ elsewhere p (suc n) (x ∷ xs) = in_stream p x + elsewhere p n xs
 abbrev pub is_closed : Mark → Bool
 is_closed Open = false
 is_closed ToldClosed = true
+is_closed Broken = false
 is_closed Lost = false
 
 -- behind a record that wasn't handed on: nothing behind a close mark, and none that was handed on

@@ -46,7 +46,7 @@ pub use ws_room_laws::{effects_end_once, room_is_enough};
 pub use ws_success_laws::{
     each_fulfilled_pipe_wrote_all_it_read, each_outcome_heard_is_the_promises,
     each_pass_has_a_promise, each_pipe_ends_as_it_shut_down, each_pipe_ends_as_its_action,
-    each_write_before_a_failure_succeeded, each_write_of_a_pipe_that_found_no_failure_succeeded,
+    each_unfailing_pipe_closes, each_write_before_a_failure_succeeded, each_write_of_a_pipe_that_found_no_failure_succeeded,
     each_write_of_an_unfailing_pipe_succeeded, none_is_rejected_before_a_failure,
 };
 pub use ws_transform_laws::{

@@ -3,7 +3,7 @@ use Rattle.std.proofs.Common.{◌≡◌, ◌≢◌, ℕ, List, [], ◌∷◌, �
 use Rattle.ws_value.specs.declared.value.Value.{Value}
 use Rattle.ws_value.specs.declared.value.Value.TheVariants.{Plain, Bytes}
 use Rattle.ws_flow.proofs.Told.{then_assoc, short_refl, short_as, short_right, before_front, before_of_short, before_then}
-use Rattle.ws_flow.specs.Told.{Mark, Open as MayCome, Closed, Lost, Told, told, goes_on, then_told, CutShort, IsShortOf}
+use Rattle.ws_flow.specs.Told.{Mark, Open as MayCome, Closed, Broken, Lost, Told, told, goes_on, then_told, CutShort, IsShortOf}
 use Rattle.ws_realm.specs.declared.realm.Why.{Why}
 use Rattle.ws_runner.specs.Node.{chunks_in, in_bytes, lying_by}
 use Rattle.ws_runner.specs.Past.{IsOne, OneAtMost}
@@ -16,6 +16,7 @@ chunks-append (Plain v ∷ xs) ys = chunks-append xs ys
 then_by : (xs : List Value) (m : Mark) (y : Told Value) → in_bytes (goes_on xs m y) ≡ goes_on (chunks_in xs) m (in_bytes y)
 then_by xs MayCome y = ap (λ q. told q y.mark) (chunks-append xs y.items)
 then_by xs Closed y = refl
+then_by xs Broken y = refl
 then_by xs Lost y = refl
 
 pub in_bytes-then : (x y : Told Value) → in_bytes (then_told x y) ≡ then_told (in_bytes x) (in_bytes y)
@@ -24,6 +25,7 @@ in_bytes-then x y = then_by x.items x.mark y
 short_by : (xs : List Value) (m : Mark) (y : Told Value) → CutShort xs m y → CutShort (chunks_in xs) m (in_bytes y)
 short_by xs MayCome y (a, b) = (ap chunks_in a, b)
 short_by xs Closed y (a, b) = (ap chunks_in a, b)
+short_by xs Broken y (a, b) = (ap chunks_in a, b)
 short_by xs Lost y (r, e) = (chunks_in r, ap chunks_in e ∙ chunks-append xs r)
 
 pub in_bytes-short : (x y : Told Value) → IsShortOf x y → IsShortOf (in_bytes x) (in_bytes y)
@@ -40,6 +42,7 @@ short-behind x y e d h =
 ended_by : {A : Type 0} (xs : List A) (m : Mark) (y : Told A) → m ≢ MayCome → goes_on xs m y ≡ told xs m
 ended_by xs MayCome y h = absurd (h refl)
 ended_by xs Closed y h = refl
+ended_by xs Broken y h = refl
 ended_by xs Lost y h = refl
 
 pub nothing-follows : {A : Type 0} (x y : Told A) → x.mark ≢ MayCome → then_told x y ≡ x
@@ -48,6 +51,7 @@ nothing-follows x y h = ended_by x.items x.mark y h
 mark_by : {A : Type 0} (xs : List A) (m : Mark) (y : Told A) → y.mark ≢ MayCome → (goes_on xs m y).mark ≢ MayCome
 mark_by xs MayCome y h = h
 mark_by xs Closed y h = λ e. cc
+mark_by xs Broken y h = λ e. cc
 mark_by xs Lost y h = λ e. cc
 
 pub mark-behind : {A : Type 0} (x y : Told A) → y.mark ≢ MayCome → (then_told x y).mark ≢ MayCome

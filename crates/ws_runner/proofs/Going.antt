@@ -9,7 +9,7 @@ use Rattle.ws_flow.specs.Parts.{AtWork, fresh, Goes}
 use Rattle.ws_flow.specs.Plans.{stages_of}
 use Rattle.ws_flow.specs.Stages.{machines}
 use Rattle.ws_flow.specs.Steps.{parts_at, behind_of}
-use Rattle.ws_flow.specs.Told.{bytes_of, Mark, Open as MayCome, Closed, Lost, Told, told, goes_on, then_told, IsShortOf}
+use Rattle.ws_flow.specs.Told.{bytes_of, Mark, Open as MayCome, Closed, Broken, Lost, Told, told, goes_on, then_told, IsShortOf}
 use Rattle.ws_flow.proofs.Chain.{goes_then}
 use Rattle.ws_flow.proofs.Cutting.{joined_append, bytes_then}
 use Rattle.ws_flow.proofs.Ends.{goes_behind}
@@ -108,6 +108,7 @@ input-then input.TooLong input.Failed c x y m₀ m₁ m₂ first second = let e 
 abbrev mark_then : Mark → Mark → Mark
 mark_then MayCome n = n
 mark_then Closed n = Closed
+mark_then Broken n = Broken
 mark_then Lost n = Lost
 
 -- what was written, and then what was written, is all that was
@@ -118,6 +119,7 @@ record WritesThen (a c : Output) (g h : List ℕ) (o n : Mark) (m₀ m₂ : Mome
 joined_by : (g h : List ℕ) (o n : Mark) → (o ≢ MayCome → h ≡ []) → told (g ++ h) (mark_then o n) ≡ then_told (told g o) (told h n)
 joined_by g h MayCome n f = refl
 joined_by g h Closed n f = let e : h ≡ [] = f (λ q. cc) in ap (λ q. told q Closed) (ap (λ q. g ++ q) e ∙ append-nil g)
+joined_by g h Broken n f = let e : h ≡ [] = f (λ q. cc) in ap (λ q. told q Broken) (ap (λ q. g ++ q) e ∙ append-nil g)
 joined_by g h Lost n f = let e : h ≡ [] = f (λ q. cc) in ap (λ q. told q Lost) (ap (λ q. g ++ q) e ∙ append-nil g)
 
 then_open : (o n : Mark) → o ≡ MayCome → mark_then o n ≡ n
@@ -216,6 +218,7 @@ more-behind x y = by x.items x.mark where
   by : (xs : List (List ℕ)) (m : Mark) → (more : List (List ℕ)) × ((goes_on xs m y).items ≡ xs ++ more)
   by xs MayCome = (y.items, refl)
   by xs Closed = ([], sym (append-nil xs))
+  by xs Broken = ([], sym (append-nil xs))
   by xs Lost = ([], sym (append-nil xs))
 
 open_items : (x y : Told (List ℕ)) → x.mark ≡ MayCome → (then_told x y).items ≡ x.items ++ y.items
@@ -302,6 +305,7 @@ short-pieces x y a b = by x.items x.mark a where
   by : (xs : List (List ℕ)) (m : Mark) → All (λ c. length c ≤ 4096) xs → All (λ c. length c ≤ 4096) (goes_on xs m y).items
   by xs MayCome a = All-append (λ c. length c ≤ 4096) xs y.items a b
   by xs Closed a = a
+  by xs Broken a = a
   by xs Lost a = a
 
 no-stages : (xs ys : List State) → map (λ w. w.stage) ys ≡ map (λ w. w.stage) xs → xs ≡ [] → ys ≡ []

@@ -15,7 +15,7 @@ use Rattle.ws_flow.specs.Parts.{AtWork, Goes}
 use Rattle.ws_flow.specs.Plans.{stages_of}
 use Rattle.ws_flow.specs.Stages.{machines}
 use Rattle.ws_flow.specs.Steps.{parts_at, behind_of}
-use Rattle.ws_flow.specs.Told.{Mark, Open as MayCome, Closed, Lost, Told, told, goes_on, then_told, IsShortOf}
+use Rattle.ws_flow.specs.Told.{Mark, Open as MayCome, Closed, Broken, Lost, Told, told, goes_on, then_told, IsShortOf}
 use Rattle.ws_flow.proofs.Steps.{goes_enters, goes_rests}
 use Rattle.ws_flow.proofs.Told.{short_trans, short_as, short_left, then_empty}
 use Rattle.ws_io.specs.Faults.{Rose}
@@ -69,12 +69,14 @@ none-behind n (v ∷ vs) e o = absurd (one_of_none n v vs e o)
 one-comes-by : (m : ℕ) (piece : List ℕ) (items : List Value) (k : Mark) → items ≡ [] → length piece ≡ m → 0 < m → OneAtMost m (goes_on items k (told (Bytes piece ∷ []) MayCome)).items
 one-comes-by m piece [] MayCome e long some = (refl, long, some)
 one-comes-by m piece [] Closed e long some = tt
+one-comes-by m piece [] Broken e long some = tt
 one-comes-by m piece [] Lost e long some = tt
 one-comes-by m piece (v ∷ vs) k e long some = absurd (cc)
 
 one-closes-by : (m : ℕ) (items : List Value) (k j : Mark) → items ≡ [] → OneAtMost m (goes_on items k (told [] j)).items
 one-closes-by m [] MayCome j e = tt
 one-closes-by m [] Closed j e = tt
+one-closes-by m [] Broken j e = tt
 one-closes-by m [] Lost j e = tt
 one-closes-by m (v ∷ vs) k j e = absurd (cc)
 

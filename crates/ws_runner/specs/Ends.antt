@@ -10,7 +10,7 @@ use Rattle.ws_flow.specs.declared.plan.Plan.{Plan}
 use Rattle.ws_flow.specs.Machines.{ending}
 use Rattle.ws_flow.specs.Plans.{as_one, reach, stages_of}
 use Rattle.ws_flow.specs.Stages.{is_of_end, machines}
-use Rattle.ws_flow.specs.Told.{bytes_of, Mark, Open, Closed, Told, told, IsBefore}
+use Rattle.ws_flow.specs.Told.{bytes_of, Mark, Open, Closed, Broken, Told, told, IsBefore}
 use Rattle.ws_io.specs.Faults.{Rose}
 use Rattle.ws_io.specs.Feed.{Fed, IsEnded, IsEmpty}
 use Rattle.ws_io.specs.Gain.{Gains, Becomes, KeepsTold}
@@ -25,7 +25,7 @@ use Rattle.ws_runner.specs.declared.node.Output.TheVariants as output
 use Rattle.ws_runner.specs.Node.{outcome_of_pipe, has_settled, is_reached}
 use Rattle.ws_runner.specs.Past.{EndedAs, HasCounts}
 
--- how much of the input was read: all, to its end and without a fault; or some of it
+-- how much of the input was read: all, to its end and without a fault; or some of it. An input is lost where it fails, and never breaks off
 pub record IsReadToEnd (old new : Moment) : Type 0 where
   pub ended : IsEnded new.feed
   pub emptied : IsEmpty new.feed
@@ -33,6 +33,7 @@ pub record IsReadToEnd (old new : Moment) : Type 0 where
 
 abbrev pub ReadAs : Mark → Moment → Moment → Type 0
 ReadAs Closed old new = IsReadToEnd old new
+ReadAs Broken old new = ⊥
 ReadAs m old new = Unit {0}
 
 -- what comes out of a plan's stages for these bytes, of which the mark tells whether they are all

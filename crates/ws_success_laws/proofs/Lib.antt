@@ -1,5 +1,7 @@
 pub mod Unrejected
 pub mod Steady
+pub mod Sated
+pub mod Closes
 pub mod Appended
 pub mod Successes
 pub mod Reacts

@@ -1,5 +1,5 @@
 -- Which writes ended well.
-use Rattle.std.specs.Prelude.{true, ◌≡◌, ◌⊎◌, false, All, ◌++◌, List, length, Some, slice_get}
+use Rattle.std.specs.Prelude.{true, ◌≡◌, ◌⊎◌, ◌&&◌, false, not, None, All, ◌++◌, List, length, Some, slice_get}
 use Rattle.ws_value.specs.declared.ids.PipeId.{PipeId}
 use Rattle.ws_value.specs.declared.ids.PromiseId.{PromiseId}
 use Rattle.ws_value.specs.declared.ids.StreamId.{StreamId}
@@ -12,6 +12,7 @@ use Rattle.ws_steps.specs.Promises.{Table, outcome_at}
 use Rattle.ws_steps.specs.Run.{Entry, run}
 use Rattle.ws_steps.specs.Slots.{Slots, empty, pipe_at, writable_at}
 use Rattle.ws_steps.specs.Turns.{Moment}
+use Rattle.ws_steps.specs.Writable.{is_closing, is_writable}
 use Rattle.ws_pipe_laws.specs.PipeWrites.{AllMoments, leaves}
 use Rattle.ws_steps.specs.WritableHistory.{run_promised}
 use Rattle.ws_pipe_laws.specs.PipeHistory.{is_live, run_moments, run_through, promises_made}
@@ -60,3 +61,10 @@ EachFulfilledPipeWroteAllItRead =
     slice_get s.pipes p.0 ≡ Some x → outcome_at s.promises x.promise ≡ Some (Fulfilled v)
     → (x.prevent.close ≡ false) ⊎ (AllMoments (FindsItUnfailing p) (run_moments entries empty) ⊎ (is_failing (writable_at x.dest s).state ≡ false))
     → IsPassedOn (run_through p entries empty) × AllFulfilled s.promises (promises_made p (run_moments entries empty))
+
+-- an action that has begun, or an end, without an error, of a pipe that isn't to leave its destination open: that isn't writable any more, or it is closing
+abbrev pub EachUnfailingPipeCloses : Type 0
+EachUnfailingPipeCloses =
+    (entries : List Entry) (p : PipeId) (x : pipe.Slots) → let s : Slots = run entries empty in
+    slice_get s.pipes p.0 ≡ Some x → is_live x.phase ≡ false → x.prevent.close ≡ false → x.error ≡ None
+    → is_writable (writable_at x.dest s).state && not (is_closing (writable_at x.dest s)) ≡ false

@@ -3,7 +3,7 @@
 #![tactic(auto)]
 
 ghost use Rattle.ws_success_laws.specs.Heard.{EachOutcomeHeardIsThePromises, EachPipeEndsAsItShutDown, EachPipeEndsAsItsAction};
-ghost use Rattle.ws_success_laws.specs.Successes.{EachFulfilledPipeWroteAllItRead, EachPassHasAPromise, EachWriteBeforeAFailureSucceeded, EachWriteOfAPipeThatFoundNoFailureSucceeded, EachWriteOfAnUnfailingPipeSucceeded, NoneIsRejectedBeforeAFailure};
+ghost use Rattle.ws_success_laws.specs.Successes.{EachFulfilledPipeWroteAllItRead, EachPassHasAPromise, EachUnfailingPipeCloses, EachWriteBeforeAFailureSucceeded, EachWriteOfAPipeThatFoundNoFailureSucceeded, EachWriteOfAnUnfailingPipeSucceeded, NoneIsRejectedBeforeAFailure};
 
 /// While a writable stream is writable or closed, no promise of a write that was appended to it is rejected.
 ///
@@ -92,4 +92,13 @@ pub fn each_pass_has_a_promise()
 /// Of: pipes, shutdown with an action, finalize.
 pub fn each_write_of_a_pipe_that_found_no_failure_succeeded()
     ensures { EachWriteOfAPipeThatFoundNoFailureSucceeded }
+{}
+
+/// A pipe without `preventClose` that has begun its action or ended, without an error, has closed its destination.
+///
+/// The destination is closing or closed then, or it has failed: it isn't both writable and open for more.
+///
+/// Of: pipes, closing must be propagated forward, WritableStreamDefaultWriterCloseWithErrorPropagation.
+pub fn each_unfailing_pipe_closes()
+    ensures { EachUnfailingPipeCloses }
 {}
