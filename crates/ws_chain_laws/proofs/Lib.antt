@@ -2,6 +2,7 @@ mod Lists
 mod Numbers
 pub mod Links
 pub mod Keeps
+pub mod Sound
 pub mod Young
 pub mod Pairs
 mod Outlets

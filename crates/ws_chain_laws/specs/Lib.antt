@@ -4,3 +4,4 @@ pub mod Opening
 pub mod Nodes
 pub mod Outcomes
 pub mod Runs
+pub mod Sound

@@ -10,6 +10,7 @@ ghost use Rattle.ws_chain_laws.specs.Nodes.{EachEventIsHeardAtOneLink, EachNodes
 ghost use Rattle.ws_chain_laws.specs.Opening.{EachChainBegins, EachWiringBegins};
 ghost use Rattle.ws_chain_laws.specs.Outcomes.{EachChainEnds, EachEndWasFlushed};
 ghost use Rattle.ws_chain_laws.specs.Runs.{EachNodeGoes, EachWiringGoes};
+ghost use Rattle.ws_chain_laws.specs.Sound.{EachSoundLinkIsWhole};
 ghost use Rattle.ws_chain_laws.specs.Laws.{EachCallKeepsChain, EachChainHasRoom, EachChainIsByNumber, EachChainKeeps, EachEventKeepsChain, EachJobKeepsChain};
 
 /// The list of the links of a chain is wired just where each of them, by its number, is a link with room for one chunk.
@@ -185,4 +186,14 @@ pub fn each_node_goes()
 /// Of: chains, links, host calls.
 pub fn each_wiring_goes()
     ensures { EachWiringGoes }
+{}
+
+/// While neither end of a link has failed and its pipe has no error, nothing is lost of what is behind the host on it.
+///
+/// The pipe isn't to leave its destination open. Once it passes nothing on any more, its destination is closing or
+/// closed, and what lies there is all that is still to come.
+///
+/// Of: links, pipes, closing must be propagated forward.
+pub fn each_sound_link_is_whole()
+    ensures { EachSoundLinkIsWhole }
 {}

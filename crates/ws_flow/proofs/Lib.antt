@@ -1,5 +1,6 @@
 pub mod Told
 pub mod Through
+pub mod Unlost
 pub mod Chain
 pub mod Endings
 pub mod Nodes
