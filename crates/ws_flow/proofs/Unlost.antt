@@ -1,5 +1,5 @@
 -- Stages lose nothing: where nothing is lost of what lies before those that may be asked, nothing is lost of what is still to come out.
-use Rattle.std.proofs.Common.{◌≡◌, ◌≢◌, List, [], ◌∷◌, arith}
+use Rattle.std.proofs.Common.{◌≡◌, ◌≢◌, ℕ, List, [], ◌∷◌, arith}
 use Rattle.ws_flow.specs.declared.plan.Ending.{Ending}
 use Rattle.ws_flow.specs.declared.plan.Ending.TheVariants.{Fine, Bad}
 use Rattle.ws_flow.specs.Machines.{Kept, Machine, mark_of, end_mark, more, through}

@@ -69,15 +69,15 @@ keeps-abort o t None = keeps-same t
 keeps-abort o t (Some a) = keeps-settle a.promise o t
 
 -- a close mark in a queue
-first_mark : (queue : List (Queued WriteRecord)) → first_value queue ≡ Some CloseMark → has_mark queue ≡ true
+pub first_mark : (queue : List (Queued WriteRecord)) → first_value queue ≡ Some CloseMark → has_mark queue ≡ true
 first_mark [] e = cc
 first_mark (x ∷ xs) e = let is : x.value ≡ CloseMark = cc in rw is refl
 
-rest_mark : (queue : List (Queued WriteRecord)) → has_mark (rest_of queue) ≡ true → has_mark queue ≡ true
+pub rest_mark : (queue : List (Queued WriteRecord)) → has_mark (rest_of queue) ≡ true → has_mark queue ≡ true
 rest_mark [] e = e
 rest_mark (x ∷ xs) e = grind arith
 
-chunk_mark : (queue : List (Queued WriteRecord)) (v : Value) (n : ℕ) → has_mark (enqueued (Chunk v) n queue) ≡ true → has_mark queue ≡ true
+pub chunk_mark : (queue : List (Queued WriteRecord)) (v : Value) (n : ℕ) → has_mark (enqueued (Chunk v) n queue) ≡ true → has_mark queue ≡ true
 chunk_mark [] v n e = e
 chunk_mark (x ∷ xs) v n e = let k = chunk_mark xs v n in grind arith
 

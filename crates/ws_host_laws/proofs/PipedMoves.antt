@@ -37,7 +37,7 @@ true_false : {A : Type 0} (b : Bool) → b ≡ true → b ≡ false → A
 true_false b e f = cc
 
 -- a shutdown without an error closes the destination, unless that is prevented
-close_named : (prevent : Prevent) (ends : Ends) (operation : PipeOperation) (a : Option Action) (e : Option Plain) → shutdown_by prevent ends operation ≡ Some (shutdown a e) → e ≡ None → prevent.close ≡ false → a ≡ Some CloseDest
+pub close_named : (prevent : Prevent) (ends : Ends) (operation : PipeOperation) (a : Option Action) (e : Option Plain) → shutdown_by prevent ends operation ≡ Some (shutdown a e) → e ≡ None → prevent.close ≡ false → a ≡ Some CloseDest
 close_named prevent ends operation a e f n c = grind arith
 
 -- where a pipe ends, and its end has no error

@@ -32,7 +32,7 @@ use Rattle.ws_writable_laws.proofs.Agenda.{Kept, found, Elsewhere, row-leaves, s
 use Rattle.ws_writable_laws.proofs.Expects.{abort_settled-expects}
 use Rattle.ws_promise_laws.proofs.Runs.{Straight, straight-stays, straight-heard, straight-empty}
 use Rattle.ws_pipe_laws.specs.PipeHistory.{is_live, is_over, shutdown, shutdown_by}
-use Rattle.ws_pipe_laws.specs.PipeMoves.{starting, Move, MoveRests, MoveWaits, MoveActs, MoveEnds, MoveFinishes, IsNamed, acted, dest_aborted, signalled, shut_in}
+use Rattle.ws_pipe_laws.specs.PipeMoves.{starting, Move, MoveRests, MoveWaits, MoveActs, MoveEnds, MoveFinishes, IsNamed, acted, hears_action, shut_in}
 use Rattle.ws_pipe_laws.proofs.Courses.{place_same}
 use Rattle.ws_pipe_laws.proofs.Kept.{each_pipe_keeps_its_ends}
 use Rattle.ws_pipe_laws.proofs.Moves.{each_pipe_moves}
@@ -170,7 +170,7 @@ module _ (p : PipeId) where
 
     acts-first : (y : pipe.Slots) (t : Table) (action : Action) → action ≡ CloseDest → y.dest ≡ x.dest
         → (d : PromiseId) × (rest : List Effect) × ((acted p ends y t action).out.effects ≡ Writable x.dest (names.ClosePropagating d) ∷ rest)
-    acts-first y t CloseDest e dest = (next_id t, _, ap (λ (j : StreamId). Writable j (names.ClosePropagating (next_id t)) ∷ _) dest)
+    acts-first y t CloseDest e dest = (next_id t, hears_action p (next_id t) ∷ [], ap (λ (j : StreamId). Writable j (names.ClosePropagating (next_id t)) ∷ hears_action p (next_id t) ∷ []) dest)
     acts-first y t (CancelSource r) e dest = absurd (cc)
     acts-first y t (AbortDest r) e dest = absurd (cc)
     acts-first y t (BySignal r) e dest = absurd (cc)

@@ -42,7 +42,7 @@ use Rattle.ws_host_laws.proofs.PipedRuns.{run-last}
 use Rattle.ws_host_laws.proofs.Writing.{AllIn, Writings, no_writings, writings_then, writings-history, effect_writings}
 use Rattle.ws_success_laws.specs.Successes.{IsUnrejected, FindsItUnfailing}
 use Rattle.ws_success_laws.proofs.Appended.{Writing, Failed, Passed, About, row-writing, same-writing}
-use Rattle.ws_success_laws.proofs.Settled as settling
+use Rattle.ws_pipe_write_laws.proofs.Settled as settling
 use Rattle.ws_pipe_write_laws.proofs.Settled.{all_settled, one_more, run-settled}
 use Rattle.ws_success_laws.proofs.Steady.{Steady, row-steady, last-locked, call-steady, job-steady, named-steady, older-steady, heard-steady}
 use Rattle.ws_success_laws.proofs.Successes.{settled-all, all-among, not_doomed}

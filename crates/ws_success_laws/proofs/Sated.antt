@@ -9,7 +9,6 @@ use Rattle.ws_steps.specs.declared.effects.Effect.{Effect}
 use Rattle.ws_steps.specs.declared.effects.Effect.TheVariants.{Writable as OnWritable}
 use Rattle.ws_steps.specs.declared.effects.Owner.{Owner}
 use Rattle.ws_steps.specs.declared.effects.Owner.TheVariants.{Host, HalfOf, BranchOf, EndOf}
-use Rattle.ws_steps.specs.declared.queue.Queued.{Queued}
 use Rattle.ws_steps.specs.declared.transform.Taker.{Taker}
 use Rattle.ws_steps.specs.declared.writable.{PendingAbort.{PendingAbort}, WritableOperation.{WritableOperation}, WritableState.{WritableState}, WriteRecord.{WriteRecord}, Writer.{Writer}}
 use Rattle.ws_steps.specs.declared.writable.WritableOperation.TheVariants as names
@@ -23,8 +22,7 @@ use Rattle.ws_steps.specs.Writable as writable
 use Rattle.ws_steps.specs.Writable.{Acts, with_promises, is_closed, is_closing, is_errored, is_erroring, is_writable, is_in_flight, has_ended, has_backpressure, fail_writes, reject_close_and_closed, abort_by, finish_abort, finish_erroring, reject_ready, start_erroring, deal_with_rejection, controller_error_if_needed, update_backpressure, refresh_backpressure, process_write, process_close, process_first, advance_queue, write_ended, without_first, write_settled, start_settled, close_ended, abort_ended, close_settled, finish_in_flight_close, finish_in_flight_close_with_error, abort_settled, enqueue_chunk, add_write_request, write_refusal, write_by, writer_write, controller_write, add_close_request, fulfil_ready, controller_close, stream_close, close_with_error_propagation, add_pending_abort, begin_abort, signalled, stream_abort, abort_if_writable, set_up_writer, writer_release, hand_on, hand_on_first}
 use Rattle.ws_laws.proofs.Tables.{either}
 use Rattle.ws_laws.proofs.WritableDoes.{IsHandOn}
-use Rattle.ws_writable_laws.proofs.Shape.{has_mark}
-use Rattle.ws_host_laws.proofs.Fates.{Neat}
+use Rattle.ws_host_laws.proofs.Fates.{Neat, first_mark, rest_mark, chunk_mark}
 
 -- whether it is writable and not closing
 abbrev pub wants : writable.Slots → Bool
@@ -44,20 +42,6 @@ alike a b e f k = rw (e, f) k
 
 ended_unwritable : (state : WritableState) → has_ended state ≡ true → is_writable state ≡ false
 ended_unwritable state e = grind (arith, e)
-
--- a close mark in a queue
-
-first_mark : (queue : List (Queued WriteRecord)) → first_value queue ≡ Some CloseMark → has_mark queue ≡ true
-first_mark [] e = cc
-first_mark (x ∷ xs) e = let is : x.value ≡ CloseMark = cc in rw is refl
-
-rest_mark : (queue : List (Queued WriteRecord)) → has_mark (rest_of queue) ≡ true → has_mark queue ≡ true
-rest_mark [] e = e
-rest_mark (x ∷ xs) e = grind arith
-
-chunk_mark : (queue : List (Queued WriteRecord)) (v : Value) (n : ℕ) → has_mark (enqueued (Chunk v) n queue) ≡ true → has_mark queue ≡ true
-chunk_mark [] v n e = e
-chunk_mark (x ∷ xs) v n e = let k = chunk_mark xs v n in grind arith
 
 module _ (me : StreamId) where
   -- errors
