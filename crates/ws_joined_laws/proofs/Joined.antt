@@ -177,7 +177,7 @@ module _ (taken : Told ℕ) (ns : List Node) (got : Told ℕ) (last : List Plain
   pub ends : JoinedEnds taken ns got last
   ends = record {
     first = chain_got taken (members ns) got h.known h.chained;
-    finished = λ c. let d = chain_done taken (members ns) got h.known h.chained c in record { all = d.0; ended = d.1; fine = d.2 };
+    finished = λ c. let d = chain_done taken (members ns) got h.known h.chained c in record { all = d.0; ends_well = d.1 };
     causes = all-reject last (caused taken ns got last h.chained h.counted h.caused);
   }
 

@@ -7,9 +7,9 @@ use Rattle.ws_value.specs.declared.fault.Fault.{Fault}
 use Rattle.ws_value.specs.declared.fault.Fault.TheVariants.{TypeError, RangeError, DataClone, User, Read, Write, Stage, TooMuch, Abort, NoMemory}
 use Rattle.ws_value.specs.declared.value.Plain.{Plain}
 use Rattle.ws_value.specs.declared.value.Plain.TheVariants.{Undefined, Number, Fault as FaultReason, Pair, Local}
-use Rattle.ws_flow.specs.declared.plan.Ending.TheVariants.{Fine, Bad}
+use Rattle.ws_flow.specs.declared.plan.Ending.TheVariants.{Bad}
 use Rattle.ws_flow.specs.Chains.{Member, Chained, all_stages}
-use Rattle.ws_flow.specs.Machines.{ending, all_through}
+use Rattle.ws_flow.specs.Machines.{ending, all_through, EndsWell}
 use Rattle.ws_flow.specs.Parts.{Flows}
 use Rattle.ws_flow.specs.Plans.{as_one, reach, sees_known_chunks}
 use Rattle.ws_flow.specs.Stages.{machines}
@@ -77,8 +77,7 @@ RejectsFor taken ns (Local k) = ⊥
 -- the output has all, the input was read to its end, and each stage ended fine
 pub record IsWhole (taken : Told ℕ) (ns : List Node) (got : Told ℕ) : Type 0 where
   pub all : bytes_of (reach (all_stages (members ns)) taken.items taken.mark) ≡ got
-  pub ended : taken.mark ≡ Closed
-  pub fine : (j : ℕ) → ending (machines (all_stages (members ns))) j (as_one taken.items taken.mark) ≡ Fine
+  pub ends_well : EndsWell (machines (all_stages (members ns))) (as_one taken.items taken.mark)
 
 -- how a run ends: `got` is closed where the output was finished
 pub record JoinedEnds (taken : Told ℕ) (ns : List Node) (got : Told ℕ) (last : List Plain) : Type 0 where
@@ -90,8 +89,7 @@ abbrev pub EachJoinedRunEnds : Type 0
 EachJoinedRunEnds = (taken : Told ℕ) (ns : List Node) (got : Told ℕ) (last : List Plain) → IsJoined taken ns got last → JoinedEnds taken ns got last
 
 pub record TellsAll (m : Member) (came went : Told (List ℕ)) : Type 0 where
-  pub ended : came.mark ≡ Closed
-  pub fine : (j : ℕ) → ending (machines m.stages) j came ≡ Fine
+  pub ends_well : EndsWell (machines m.stages) came
   pub all : went ≡ all_through (machines m.stages) came
 
 abbrev pub EachNodeTells : Type 0
