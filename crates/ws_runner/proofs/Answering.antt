@@ -10,7 +10,7 @@ use Rattle.ws_value.specs.declared.ids.StreamId.{StreamId}
 use Rattle.ws_value.specs.declared.value.Plain.TheVariants.{Fault as FaultReason}
 use Rattle.ws_value.specs.declared.value.Value.{Value}
 use Rattle.ws_value.specs.declared.value.Value.TheVariants.{Bytes}
-use Rattle.ws_flow.specs.declared.plan.Plan.{Plan}
+use Rattle.ws_runner.specs.Shape.{Shape, count_in}
 use Rattle.ws_flow.specs.Parts.{Goes}
 use Rattle.ws_flow.specs.Stages.{machines}
 use Rattle.ws_flow.specs.Told.{bytes_of, Open as MayCome, Closed, Lost, Told, told, then_told, IsShortOf}
@@ -40,11 +40,11 @@ use Rattle.ws_runner.specs.declared.node.Output.{Output}
 use Rattle.ws_runner.specs.declared.node.Output.TheVariants as output
 use Rattle.ws_runner.specs.Moves.{Asks, with_realm, Shown, shut, fault_of, Fails, fails, settles, triggers, nearer, draws_near, draws_by, had_by, written, Untouched, Writes, WroteAll, WroteLess, WroteNone, Reached, Finishes, FinishedWell, FinishedBadly, FinishedNot, Settles, is_writable}
 use Rattle.ws_runner.specs.Node.{coming, in_bytes, is_reached, lies_in, lying, nothing_yet, parts, stages_in, works_in}
-use Rattle.ws_runner.specs.Opening.{count_of, past}
 use Rattle.ws_runner.proofs.Staged.{same-length}
 use Rattle.ws_runner.specs.Past.{IsCause, OneAtMost, ArePushed, HasOne, Led, Since, may_have}
 use Rattle.ws_runner.specs.Went.{AbortGoes, OutputGoes}
-use Rattle.ws_runner.proofs.Called.{may-settle, named-longer}
+use Rattle.ws_runner.proofs.Called.{may-settle}
+use Rattle.ws_runner.proofs.Entries.{called-longer}
 use Rattle.ws_runner.proofs.Changes.{led-abort, led-ahead, led-asked, led-output}
 use Rattle.ws_runner.proofs.Going.{going-stays, went-quietly, went-rests}
 use Rattle.ws_runner.proofs.Handled.{Handled, shows}
@@ -123,40 +123,40 @@ drawn count (Some y) n c e d = drawn-near y count (y.left - count) n c refl d
 trigger-quiet : (y : Abort) (k : ℕ) → call_enters FromBytes k (triggers y) ≡ silence
 trigger-quiet y k = (each_nodes_call_brings FromBytes k).trigger y.signal (FaultReason AbortFault)
 
-may-trigger : (plan : Plan) (xs : List Entry) (n : Node) (y : Abort) → is_reached n.abort ≡ true → MayAsk plan xs n (triggers y)
-may-trigger plan xs n y reached =
+may-trigger : (shape : Shape) (past : List Entry) (n : Node) (y : Abort) → is_reached n.abort ≡ true → MayAsk shape past n (triggers y)
+may-trigger shape past n y reached =
     record {
-      is_nodes = tt;
+      is_own = tt;
       failed = All-cons (IsCause n) (FaultReason AbortFault) [] reached (All-nil (IsCause n));
       closes = λ id e c. absurd (cc);
       flushes = λ id i e c first last w at. absurd (cc);
     }
 
-module _ (plan : Plan) (xs : List Entry) (id : HostId) (call : HostCall) (is : slice_get (called (past plan xs)) id.0 ≡ Some call) where
+module _ (shape : Shape) (past : List Entry) (id : HostId) (call : HostCall) (is : slice_get (called past) id.0 ≡ Some call) where
   -- a call is settled well; and badly, with a cause
-  well : (n b : Node) → Led plan xs n → (call ≡ Close n.sink → n.output ≡ output.Finished) → ((s : StreamId) → call ≡ Flush s → ⊥) → Asks (settles id) n b → AfterQuiet plan xs n b
+  well : (n b : Node) → Led shape past n → (call ≡ Close n.sink → n.output ≡ output.Finished) → ((s : StreamId) → call ≡ Flush s → ⊥) → Asks (settles id) n b → AfterQuiet shape past n b
   well n b led close flush asks =
-      asks-quietly plan xs n b (settles id) (settle-quiet id AnswerOk) led (may-settle plan xs n id call is AnswerOk (All-nil (IsCause n)) (λ c x. close c) (λ s f. absurd (flush s f))) asks
+      asks-quietly shape past n b (settles id) (settle-quiet id AnswerOk) led (may-settle shape past n id call is AnswerOk (All-nil (IsCause n)) (λ c x. close c) (λ s f. absurd (flush s f))) asks
 
-  badly : (n b : Node) → Led plan xs n → n.output ≢ output.Open → (n.output ≡ output.Aborted → is_reached n.abort ≡ true) → Asks (fails id (fault_of n.output)) n b → AfterQuiet plan xs n b
+  badly : (n b : Node) → Led shape past n → n.output ≢ output.Open → (n.output ≡ output.Aborted → is_reached n.abort ≡ true) → Asks (fails id (fault_of n.output)) n b → AfterQuiet shape past n b
   badly n b led closed reached asks =
       let x = AnswerFail (FaultReason (fault_of n.output)) in
-      asks-quietly plan xs n b (Settle id x) (settle-quiet id x) led
-      (may-settle plan xs n id call is x (All-cons (IsCause n) (FaultReason (fault_of n.output)) [] (caused n closed reached) (All-nil (IsCause n))) (λ c e. absurd (cc)) (λ s f e. absurd (cc))) asks
+      asks-quietly shape past n b (Settle id x) (settle-quiet id x) led
+      (may-settle shape past n id call is x (All-cons (IsCause n) (FaultReason (fault_of n.output)) [] (caused n closed reached) (All-nil (IsCause n))) (λ c e. absurd (cc)) (λ s f e. absurd (cc))) asks
 
-module _ (rf : ℕ) (feed : Option Feed) (p q : List ℕ → Type 0) (plan : Plan) (xs : List Entry) (a : Node) (realm : SeenRealm) (id : HostId) (b : Node) (old new : Shown) (since : Since plan xs a)
+module _ (rf : ℕ) (feed : Option Feed) (p q : List ℕ → Type 0) (shape : Shape) (past : List Entry) (a : Node) (realm : SeenRealm) (id : HostId) (b : Node) (old new : Shown) (since : Since shape past a)
     (goes : a.stopped ≡ None) where
   abbrev was : Node
   was = with_realm realm a
 
   abbrev further : List Entry
-  further = xs ++ Heard ∷ []
+  further = past ++ Heard ∷ []
 
   -- of the sink
-  module _ (call : HostCall) (t : Told Value) (event : AfterEvent plan xs a realm (Host id call))
-      (heard : (k : ℕ) → k ≤ count_of plan → heard_at FromBytes ToSink (count_of plan) k (Host id call) ≡ only_at (count_of plan) t k) where
+  module _ (call : HostCall) (t : Told Value) (event : AfterEvent shape past a realm (Host id call))
+      (heard : (k : ℕ) → k ≤ count_in shape → heard_at FromBytes ToSink (count_in shape) k (Host id call) ≡ only_at (count_in shape) t k) where
     -- once the output isn't open, nothing is said of what is behind the host without stages
-    one-shut : (k : ℕ) (x : Option Abort) (o : Output) (after : AfterQuiet plan further (record was { ahead = k; abort = x; output = o }) b) → o ≢ output.Open → k ≡ a.ahead → HasOne b
+    one-shut : (k : ℕ) (x : Option Abort) (o : Output) (after : AfterQuiet shape further (record was { ahead = k; abort = x; output = o }) b) → o ≢ output.Open → k ≡ a.ahead → HasOne b
     one-shut k x o after closed same = by a.stages.items refl where
       b-stages : b.stages.items ≡ a.stages.items
       b-stages = ap (λ (n : Node). n.stages.items) after.only.is
@@ -165,64 +165,64 @@ module _ (rf : ℕ) (feed : Option Feed) (p q : List ℕ → Type 0) (plan : Pla
       by [] e = λ h.
           let f : may_have [] b.output b.abort ≡ true = subst (λ (s : List State). may_have s b.output b.abort ≡ true) (b-stages ∙ e) h in
           absurd (closed (sym (ap (λ (n : Node). n.output) after.only.is) ∙ writable-open b.output ((and_parts (is_writable b.output) _ f).0)))
-      by (u ∷ us) e = one-stages plan xs a realm since goes id call t event heard b u us e (b-stages ∙ e) (ap (λ (n : Node). n.ahead) after.only.is ∙ same) (λ n o. after.one n o)
+      by (u ∷ us) e = one-stages shape past a realm since goes id call t event heard b u us e (b-stages ∙ e) (ap (λ (n : Node). n.ahead) after.only.is ∙ same) (λ n o. after.one n o)
 
-    lost-out : (x : Told (List ℕ)) → IsShortOf (told [] Lost) (lies_to x a (count_of plan))
-    lost-out x = ((lies_to x a (count_of plan)).items, refl)
+    lost-out : (x : Told (List ℕ)) → IsShortOf (told [] Lost) (lies_to x a (count_in shape))
+    lost-out x = ((lies_to x a (count_in shape)).items, refl)
 
     -- what was asked of an output that takes no more is lost
-    refused : a.output ≢ output.Open → Untouched old new p q → Fails id was b → Handled plan a b (shows rf feed old) (shows rf feed new) p q
+    refused : a.output ≢ output.Open → Untouched old new p q → Fails id was b → Handled shape a b (shows rf feed old) (shows rf feed new) p q
     refused shut_already untouched asks =
         let o = shut a.output in
         let same = shut-stays a.output shut_already in
-        let led = led-output plan further was o (λ h. same) (λ e. since.led.aborts (sym same ∙ e)) event.led in
-        let after = badly plan further id call event.its (record was { output = o }) b led (shut-shut a.output) (λ e. since.led.aborts (sym same ∙ e)) asks in
+        let led = led-output shape further was o (λ h. same) (λ e. since.led.aborts (sym same ∙ e)) event.led in
+        let after = badly shape further id call event.its (record was { output = o }) b led (shut-shut a.output) (λ e. since.led.aborts (sym same ∙ e)) asks in
         rw untouched.shown
-        (sunk plan xs a realm since goes id call t event heard b a.ahead a.abort o after (told [] Lost) lost-out rf feed old old p q [] Lost untouched.gained ([], refl) (λ e. omega arith)
+        (sunk shape past a realm since goes id call t event heard b a.ahead a.abort o after (told [] Lost) lost-out rf feed old old p q [] Lost untouched.gained ([], refl) (λ e. omega arith)
         (subst (λ (z : Output). OutputGoes a.output z [] Lost (shows rf feed old) (shows rf feed old)) (sym same) (output-alone a.output [] Lost (shows rf feed old) shut_already refl))
         (abort-same a.abort [] o) (one-shut a.ahead a.abort o after (shut-shut a.output) refl))
 
     -- it fails as it is asked for this, of which some was written
     broken : (went : Told (List ℕ)) (gain : List ℕ) → a.output ≡ output.Open → Gains p q gain → Rose old.faults new.faults → KeepsTold old.finished new.finished → Fails id was b
-        → ((x : Told (List ℕ)) → IsShortOf (then_told went (lies_to x was (count_of plan))) (lies_to x a (count_of plan))) → IsShortOf (told gain Lost) (bytes_of went)
-        → (a.stages.items ≡ [] → a.ahead ≤ length gain + a.ahead) → AbortGoes a.abort a.abort went.items gain (shut a.output) → Handled plan a b (shows rf feed old) (shows rf feed new) p q
+        → ((x : Told (List ℕ)) → IsShortOf (then_told went (lies_to x was (count_in shape))) (lies_to x a (count_in shape))) → IsShortOf (told gain Lost) (bytes_of went)
+        → (a.stages.items ≡ [] → a.ahead ≤ length gain + a.ahead) → AbortGoes a.abort a.abort went.items gain (shut a.output) → Handled shape a b (shows rf feed old) (shows rf feed new) p q
     broken went gain is gained rose kept asks there written ahead abort =
         let o = shut a.output in
-        let led = led-output plan further was o (λ h. absurd (h is)) (λ e. absurd (let f = open-fails a.output is in cc)) event.led in
-        let after = badly plan further id call event.its (record was { output = o }) b led (shut-shut a.output) (λ e. absurd (let f = open-fails a.output is in cc)) asks in
-        sunk plan xs a realm since goes id call t event heard b a.ahead a.abort o after went there rf feed old new p q gain Lost gained written ahead
+        let led = led-output shape further was o (λ h. absurd (h is)) (λ e. absurd (let f = open-fails a.output is in cc)) event.led in
+        let after = badly shape further id call event.its (record was { output = o }) b led (shut-shut a.output) (λ e. absurd (let f = open-fails a.output is in cc)) asks in
+        sunk shape past a realm since goes id call t event heard b a.ahead a.abort o after went there rf feed old new p q gain Lost gained written ahead
         (output-fails a.output gain (shows rf feed old) (shows rf feed new) is rose kept) abort (one-shut a.ahead a.abort o after (shut-shut a.output) refl)
 
-  heard-write : (v : Value) (k : ℕ) → k ≤ count_of plan → heard_at FromBytes ToSink (count_of plan) k (Host id (Write a.sink v)) ≡ only_at (count_of plan) (told (v ∷ []) MayCome) k
+  heard-write : (v : Value) (k : ℕ) → k ≤ count_in shape → heard_at FromBytes ToSink (count_in shape) k (Host id (Write a.sink v)) ≡ only_at (count_in shape) (told (v ∷ []) MayCome) k
   heard-write v k less =
-      subst (λ (s : StreamId). heard_at FromBytes ToSink (count_of plan) k (Host id (Write s v)) ≡ only_at (count_of plan) (told (v ∷ []) MayCome) k) (sym since.led.is_of.sink)
-      ((each_event_is_heard_at_one_link FromBytes ToSink (count_of plan) k less).write id v)
+      subst (λ (s : StreamId). heard_at FromBytes ToSink (count_in shape) k (Host id (Write s v)) ≡ only_at (count_in shape) (told (v ∷ []) MayCome) k) (sym since.led.is_of.sink)
+      ((each_event_is_heard_at_one_link FromBytes ToSink (count_in shape) k less).write id v)
 
-  heard-close : (k : ℕ) → k ≤ count_of plan → heard_at FromBytes ToSink (count_of plan) k (Host id (Close a.sink)) ≡ only_at (count_of plan) (told [] Closed) k
+  heard-close : (k : ℕ) → k ≤ count_in shape → heard_at FromBytes ToSink (count_in shape) k (Host id (Close a.sink)) ≡ only_at (count_in shape) (told [] Closed) k
   heard-close k less =
-      subst (λ (s : StreamId). heard_at FromBytes ToSink (count_of plan) k (Host id (Close s)) ≡ only_at (count_of plan) (told [] Closed) k) (sym since.led.is_of.sink)
-      ((each_event_is_heard_at_one_link FromBytes ToSink (count_of plan) k less).close id)
+      subst (λ (s : StreamId). heard_at FromBytes ToSink (count_in shape) k (Host id (Close s)) ≡ only_at (count_in shape) (told [] Closed) k) (sym since.led.is_of.sink)
+      ((each_event_is_heard_at_one_link FromBytes ToSink (count_in shape) k less).close id)
 
-  module _ (piece : List ℕ) (event : AfterEvent plan xs a realm (Host id (Write a.sink (Bytes piece)))) where
+  module _ (piece : List ℕ) (event : AfterEvent shape past a realm (Host id (Write a.sink (Bytes piece)))) where
     abbrev call : HostCall
     call = Write a.sink (Bytes piece)
 
     abbrev one_told : Told Value
     one_told = told (Bytes piece ∷ []) MayCome
 
-    heard : (k : ℕ) → k ≤ count_of plan → heard_at FromBytes ToSink (count_of plan) k (Host id call) ≡ only_at (count_of plan) one_told k
+    heard : (k : ℕ) → k ≤ count_in shape → heard_at FromBytes ToSink (count_in shape) k (Host id call) ≡ only_at (count_in shape) one_told k
     heard = heard-write (Bytes piece)
 
-    out : (x : Told (List ℕ)) → IsShortOf (then_told (told (piece ∷ []) MayCome) (lies_to x was (count_of plan))) (lies_to x a (count_of plan))
-    out = heard-out plan xs a realm since goes id call one_told event heard
+    out : (x : Told (List ℕ)) → IsShortOf (then_told (told (piece ∷ []) MayCome) (lies_to x was (count_in shape))) (lies_to x a (count_in shape))
+    out = heard-out shape past a realm since goes id call one_told event heard
 
     short-piece : a.output ≡ output.Open → length piece < 2 ^ 25
-    short-piece is = piece-short plan xs a realm since goes piece (lies_to (coming a (count_of plan)) was (count_of plan)) is (out (coming a (count_of plan)))
+    short-piece is = piece-short shape past a realm since goes piece (lies_to (coming a (count_in shape)) was (count_in shape)) is (out (coming a (count_in shape)))
 
     -- it was written first, and then nothing more comes
-    out-lost : (x : Told (List ℕ)) → IsShortOf (then_told (told (piece ∷ []) Lost) (lies_to x was (count_of plan))) (lies_to x a (count_of plan))
+    out-lost : (x : Told (List ℕ)) → IsShortOf (then_told (told (piece ∷ []) Lost) (lies_to x was (count_in shape))) (lies_to x a (count_in shape))
     out-lost x =
-        let n = count_of plan in
+        let n = count_in shape in
         let f = before_front (then_told (told (piece ∷ []) MayCome) (lies_to x was n)) (lies_to x a n) (before_of_short _ _ (out x)) in
         ((lies_to x was n).items ++ f.0, f.1)
 
@@ -232,40 +232,40 @@ module _ (rf : ℕ) (feed : Option Feed) (p q : List ℕ → Type 0) (plan : Pla
     abbrev abort_left : Option Abort
     abort_left = nearer_by (length piece) a.abort
 
-    one-written : (after : AfterQuiet plan further (record was { ahead = left; abort = abort_left }) b) → a.output ≡ output.Open → is_reached a.abort ≡ false → HasOne b
+    one-written : (after : AfterQuiet shape further (record was { ahead = left; abort = abort_left }) b) → a.output ≡ output.Open → is_reached a.abort ≡ false → HasOne b
     one-written after is near = by a.stages.items refl where
       b-stages : b.stages.items ≡ a.stages.items
       b-stages = ap (λ (n : Node). n.stages.items) after.only.is
 
       by : (ws : List State) → a.stages.items ≡ ws → HasOne b
       by [] e = λ h.
-          let none : count_of plan ≡ 0 = sym (count-works plan xs a realm since goes) ∙ (let f : length (works_in a) ≡ length a.stages.items = length-map a.stages.items (λ (w : State). w.work) in let g : length a.stages.items ≡ 0 = ap length e in omega arith) in
+          let none : count_in shape ≡ 0 = sym (count-works shape past a realm since goes) ∙ (let f : length (works_in a) ≡ length a.stages.items = length-map a.stages.items (λ (w : State). w.work) in let g : length a.stages.items ≡ 0 = ap length e in omega arith) in
           let may : may_have a.stages.items a.output a.abort ≡ true = rw (e, is, near) refl in
-          let it : heard_at FromBytes ToSink (count_of plan) 0 (Host id call) ≡ one_told = heard 0 (omega arith) ∙ (ap (λ (n : ℕ). only_at n one_told 0) none ∙ at-there 0 one_told) in
+          let it : heard_at FromBytes ToSink (count_in shape) 0 (Host id call) ≡ one_told = heard 0 (omega arith) ∙ (ap (λ (n : ℕ). only_at n one_told 0) none ∙ at-there 0 one_told) in
           let left_over = one-heard a.ahead (Bytes piece) (behind_at 0 realm.slots) (behind_at 0 a.realm.slots)
           (subst (λ (t : Told Value). IsShortOf (then_told t (behind_at 0 realm.slots)) (behind_at 0 a.realm.slots)) it (event.short 0 (omega arith))) (since.one may) in
           after.one b.ahead (subst (OneAtMost b.ahead) (sym left_over.0) tt)
       by (u ∷ us) e =
-          one-stages plan xs a realm since goes id call one_told event heard b u us e (b-stages ∙ e)
+          one-stages shape past a realm since goes id call one_told event heard b u us e (b-stages ∙ e)
           (ap (λ (n : Node). n.ahead) after.only.is ∙ ap (λ (ws : List State). had_by ws (length piece) a.ahead) e) (λ n o. after.one n o)
 
-    after-drawn : (c : Node) → Led plan further (record was { ahead = left; abort = abort_left }) → Drawn (record was { ahead = left; abort = abort_left }) c → Asks (settles id) c b
-        → AfterQuiet plan further (record was { ahead = left; abort = abort_left }) b
+    after-drawn : (c : Node) → Led shape further (record was { ahead = left; abort = abort_left }) → Drawn (record was { ahead = left; abort = abort_left }) c → Asks (settles id) c b
+        → AfterQuiet shape further (record was { ahead = left; abort = abort_left }) b
     after-drawn c led (Same e) asks =
-        well plan further id call event.its (record was { ahead = left; abort = abort_left }) b led (λ f. absurd (cc)) (λ s f. cc) (subst (λ (n : Node). Asks (settles id) n b) e asks)
+        well shape further id call event.its (record was { ahead = left; abort = abort_left }) b led (λ f. absurd (cc)) (λ s f. cc) (subst (λ (n : Node). Asks (settles id) n b) e asks)
     after-drawn c led (Triggered y reached trigger) asks =
         let n : Node = record was { ahead = left; abort = abort_left } in
-        let first = asks-quietly plan further n c (triggers y) (trigger-quiet y) led (may-trigger plan further n y reached) trigger in
-        quiet-then plan further n c b first
-        (well plan (further ++ first.more) id call (named-longer plan further first.more id call event.its) c b first.led (λ f. absurd (cc)) (λ s f. cc) asks)
+        let first = asks-quietly shape further n c (triggers y) (trigger-quiet y) led (may-trigger shape further n y reached) trigger in
+        quiet-then shape further n c b first
+        (well shape (further ++ first.more) id call (called-longer further first.more id call event.its) c b first.led (λ f. absurd (cc)) (λ s f. cc) asks)
 
-    pub wrote : Writes id piece was b old new p q → Handled plan a b (shows rf feed old) (shows rf feed new) p q
+    pub wrote : Writes id piece was b old new p q → Handled shape a b (shows rf feed old) (shows rf feed new) p q
     wrote (WroteAll is near gained calm kept c draws asks) =
         let m : Node = record was { ahead = left } in
-        let led = led-abort plan further m abort_left (signal-same (length piece) a.abort) (λ r. absurd (let f : true ≡ false = sym r ∙ near in cc))
-        (led-ahead plan further was left (had-less a.stages.items (length piece) a.ahead) event.led) in
+        let led = led-abort shape further m abort_left (signal-same (length piece) a.abort) (λ r. absurd (let f : true ≡ false = sym r ∙ near in cc))
+        (led-ahead shape further was left (had-less a.stages.items (length piece) a.ahead) event.led) in
         let after = after-drawn c led (drawn (length piece) a.abort m c refl draws) asks in
-        sunk plan xs a realm since goes id call one_told event heard b left abort_left a.output after (told (piece ∷ []) MayCome) out rf feed old new p q piece MayCome gained (append-nil piece, refl)
+        sunk shape past a realm since goes id call one_told event heard b left abort_left a.output after (told (piece ∷ []) MayCome) out rf feed old new p q piece MayCome gained (append-nil piece, refl)
         (had-counts a.stages.items (length piece) a.ahead) (output-open a.output piece (shows rf feed old) (shows rf feed new) is calm kept)
         (abort-nearer a.abort piece a.output near (short-piece is)) (one-written after is near)
     wrote (WroteLess is near gain rest e gained rose kept asks) =
@@ -275,21 +275,21 @@ module _ (rf : ℕ) (feed : Option Feed) (p q : List ℕ → Type 0) (plan : Pla
     wrote (WroteNone closed untouched asks) = refused call one_told event heard closed untouched asks
     wrote (Reached is reached untouched asks) =
         let n : Node = record was { output = output.Aborted } in
-        let led = led-output plan further was output.Aborted (λ h. absurd (h is)) (λ e. reached) event.led in
-        let after = badly plan further id call event.its n b led (λ e. cc) (λ e. reached) asks in
+        let led = led-output shape further was output.Aborted (λ h. absurd (h is)) (λ e. reached) event.led in
+        let after = badly shape further id call event.its n b led (λ e. cc) (λ e. reached) asks in
         rw untouched.shown
-        (sunk plan xs a realm since goes id call one_told event heard b a.ahead a.abort output.Aborted after (told [] Lost) (lost-out call one_told event heard) rf feed old old p q [] Lost untouched.gained ([], refl)
+        (sunk shape past a realm since goes id call one_told event heard b a.ahead a.abort output.Aborted after (told [] Lost) (lost-out call one_told event heard) rf feed old old p q [] Lost untouched.gained ([], refl)
         (λ e. omega arith) (output-aborts a.output (shows rf feed old) is) (abort-same a.abort [] output.Aborted) (one-shut call one_told event heard a.ahead a.abort output.Aborted after (λ e. cc) refl))
 
   -- the sink is closed
-  module _ (event : AfterEvent plan xs a realm (Host id (Close a.sink))) where
-    pub closed : Finishes id was b old new p q → Handled plan a b (shows rf feed old) (shows rf feed new) p q
+  module _ (event : AfterEvent shape past a realm (Host id (Close a.sink))) where
+    pub closed : Finishes id was b old new p q → Handled shape a b (shows rf feed old) (shows rf feed new) p q
     closed (FinishedWell is gained calm done asks) =
         let call = Close a.sink in
-        let led = led-output plan further was output.Finished (λ h. absurd (h is)) (λ e. absurd (cc)) event.led in
-        let after = well plan further id call event.its (record was { output = output.Finished }) b led (λ e. refl) (λ s f. cc) asks in
-        sunk plan xs a realm since goes id call (told [] Closed) event heard-close b a.ahead a.abort output.Finished after (told [] Closed)
-        (heard-out plan xs a realm since goes id call (told [] Closed) event heard-close) rf feed old new p q [] Closed gained (refl, refl)
+        let led = led-output shape further was output.Finished (λ h. absurd (h is)) (λ e. absurd (cc)) event.led in
+        let after = well shape further id call event.its (record was { output = output.Finished }) b led (λ e. refl) (λ s f. cc) asks in
+        sunk shape past a realm since goes id call (told [] Closed) event heard-close b a.ahead a.abort output.Finished after (told [] Closed)
+        (heard-out shape past a realm since goes id call (told [] Closed) event heard-close) rf feed old new p q [] Closed gained (refl, refl)
         (λ e. omega arith) (output-finishes a.output (shows rf feed old) (shows rf feed new) is calm done) (abort-same a.abort [] output.Finished)
         (one-shut call (told [] Closed) event heard-close a.ahead a.abort output.Finished after (λ e. cc) refl)
     closed (FinishedBadly is gained rose kept asks) =
@@ -299,35 +299,35 @@ module _ (rf : ℕ) (feed : Option Feed) (p q : List ℕ → Type 0) (plan : Pla
     closed (FinishedNot shut_already untouched asks) = refused (Close a.sink) (told [] Closed) event heard-close shut_already untouched asks
 
   -- of nothing whose bytes lie in the node
-  module _ (e : Event) (event : AfterEvent plan xs a realm e) (quiet : (k : ℕ) → k ≤ count_of plan → in_bytes (heard_at FromBytes ToSink (count_of plan) k e) ≡ nothing_yet) (one : HasOne was) where
-    unheard : (k : ℕ) → k ≤ count_of plan → IsShortOf (lies_in was k) (lies_in a k)
-    unheard k less = unheard-lies plan xs a realm e event goes (coming a k) k less (quiet k less)
+  module _ (e : Event) (event : AfterEvent shape past a realm e) (quiet : (k : ℕ) → k ≤ count_in shape → in_bytes (heard_at FromBytes ToSink (count_in shape) k e) ≡ nothing_yet) (one : HasOne was) where
+    unheard : (k : ℕ) → k ≤ count_in shape → IsShortOf (lies_in was k) (lies_in a k)
+    unheard k less = unheard-lies shape past a realm e event goes (coming a k) k less (quiet k less)
 
     -- nothing is answered
-    pub noted : b ≡ was → Untouched old new p q → Handled plan a b (shows rf feed old) (shows rf feed new) p q
+    pub noted : b ≡ was → Untouched old new p q → Handled shape a b (shows rf feed old) (shows rf feed new) p q
     noted same untouched =
         rw (untouched.shown, same)
         (record {
-          xs = further;
+          past = further;
           led = event.led;
           pushes = λ h. subst (λ (n : ℕ). ArePushed n a.stages.items) (sym event.age) (since.pushes goes);
           one = one;
-          went = went-rests plan a was (shows rf feed old) p q untouched.gained (going-stays a was goes) since.led.is_of.stages (record { realm = realm; stopped = a.stopped; is = refl }) unheard;
+          went = went-rests shape a was (shows rf feed old) p q untouched.gained (going-stays a was goes) since.led.is_of.stages (record { realm = realm; stopped = a.stopped; is = refl }) unheard;
         })
 
     rest-goes : Goes (machines (stages_in a)) nothing_yet (parts a) (lying a) (parts was) (lying was)
     rest-goes =
         goes_rests (machines (stages_in a)) 0 (works_in a) (lies_in a) (lies_in was) (same-length a.stages.items)
-        (λ j p less. unheard j (let f = count-works plan xs a realm since goes in omega arith))
+        (λ j p less. unheard j (let f = count-works shape past a realm since goes in omega arith))
 
     -- a pull waits
-    pub pulled : (i : StreamId) → e ≡ Host id (Pull i) → b ≡ record was { asked = Some id } → Untouched old new p q → Handled plan a b (shows rf feed old) (shows rf feed new) p q
+    pub pulled : (i : StreamId) → e ≡ Host id (Pull i) → b ≡ record was { asked = Some id } → Untouched old new p q → Handled shape a b (shows rf feed old) (shows rf feed new) p q
     pulled i is same untouched =
         let n : Node = record was { asked = Some id } in
         rw (untouched.shown, same)
         (record {
-          xs = further;
-          led = led-asked plan further was id (i, subst (λ x. IsItsCall (called (past plan further)) x) is event.its) event.led;
+          past = further;
+          led = led-asked shape further was id (i, subst (λ x. IsItsCall (called further) x) is event.its) event.led;
           pushes = λ h. subst (λ (k : ℕ). ArePushed k a.stages.items) (sym event.age) (since.pushes goes);
           one = one;
           went = went-quietly a n (shows rf feed old) p q untouched.gained (going-stays a n goes)
@@ -336,14 +336,14 @@ module _ (rf : ℕ) (feed : Option Feed) (p q : List ℕ → Type 0) (plan : Pla
 
     -- it is settled at once
     pub settled : (call : HostCall) → e ≡ Host id call → (call ≡ Close a.sink → ⊥) → ((s : StreamId) → call ≡ Flush s → ⊥) → Settles id was b old new p q
-        → Handled plan a b (shows rf feed old) (shows rf feed new) p q
+        → Handled shape a b (shows rf feed old) (shows rf feed new) p q
     settled call is other flush (asks, untouched) =
-        let its : slice_get (called (past plan further)) id.0 ≡ Some call = subst (λ x. IsItsCall (called (past plan further)) x) is event.its in
-        let after = well plan further id call its was b event.led (λ c. absurd (other c)) flush asks in
+        let its : slice_get (called further) id.0 ≡ Some call = subst (λ x. IsItsCall (called further) x) is event.its in
+        let after = well shape further id call its was b event.led (λ c. absurd (other c)) flush asks in
         let b-is : b ≡ record a { realm = after.only.realm; stopped = after.only.stopped } = after.only.is in
         rw untouched.shown
         (record {
-          xs = further ++ after.more;
+          past = further ++ after.more;
           led = after.led;
           pushes = λ h.
               let f = after.older h in
@@ -352,7 +352,7 @@ module _ (rf : ℕ) (feed : Option Feed) (p q : List ℕ → Type 0) (plan : Pla
           one = λ h.
               subst (λ (k : ℕ). OneAtMost k (behind_at 0 b.realm.slots).items) (sym (ap (λ (n : Node). n.ahead) b-is))
               (after.one a.ahead (one (subst (λ (n : Node). may_have n.stages.items n.output n.abort ≡ true) b-is h)));
-          went = went-rests plan a b (shows rf feed old) p q untouched.gained (going-stays a b goes) since.led.is_of.stages (record { realm = after.only.realm; stopped = after.only.stopped; is = b-is })
+          went = went-rests shape a b (shows rf feed old) p q untouched.gained (going-stays a b goes) since.led.is_of.stages (record { realm = after.only.realm; stopped = after.only.stopped; is = b-is })
               (λ k less. subst (λ (z : Told (List ℕ)). IsShortOf (lies_to z b k) (lies_in a k)) (sym (ap (λ (n : Node). coming n k) b-is))
               (short_trans _ _ _ (after.lies (coming a k) k less) (unheard k less)));
         })

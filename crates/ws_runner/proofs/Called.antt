@@ -1,10 +1,10 @@
--- The number of a host's call names it in each longer past, and the host settles it.
+-- The host settles a call.
 use Rattle.std.proofs.Common.{◌≡◌, List, ◌++◌, Some, sym, ap, ◌∙◌, subst, arith}
 use Rattle.std.specs.Prelude.{slice_get, All}
 use Rattle.ws_value.specs.declared.ids.HostId.{HostId}
 use Rattle.ws_value.specs.declared.ids.StreamId.{StreamId}
 use Rattle.ws_flow.specs.declared.plan.Ending.TheVariants.{Fine}
-use Rattle.ws_flow.specs.declared.plan.Plan.{Plan}
+use Rattle.ws_runner.specs.Shape.{Shape, count_in}
 use Rattle.ws_flow.specs.Parts.{Over}
 use Rattle.ws_stages.specs.State.{State}
 use Rattle.ws_steps.specs.declared.calls.Answer.{Answer}
@@ -18,15 +18,8 @@ use Rattle.ws_reason_laws.specs.Reasons.{failure_of}
 use Rattle.ws_runner.specs.declared.node.Node.{Node}
 use Rattle.ws_runner.specs.declared.node.Output.TheVariants as output
 use Rattle.ws_runner.specs.Moves.{IsAt}
-use Rattle.ws_runner.specs.Opening.{past}
 use Rattle.ws_runner.specs.Past.{IsCause}
-use Rattle.ws_runner.proofs.Entries.{past-longer, called-longer}
 use Rattle.ws_runner.proofs.Since.{MayAsk}
-
-pub named-longer : (plan : Plan) (xs more : List Entry) (id : HostId) (call : HostCall) → slice_get (called (past plan xs)) id.0 ≡ Some call
-    → slice_get (called (past plan (xs ++ more))) id.0 ≡ Some call
-named-longer plan xs more id call h =
-    subst (λ q. slice_get (called q) id.0 ≡ Some call) (sym (past-longer plan xs more)) (called-longer (past plan xs) more id call h)
 
 some_same : {A : Type 0} (x y : A) → Some x ≡ Some y → x ≡ y
 some_same x y e = grind arith
@@ -38,17 +31,17 @@ answer_of : (id i : HostId) (x : Answer) → Settle id x ≡ settles_well i → 
 answer_of id i x e = grind arith
 
 -- the host may settle a call: with a failure that has its cause, and well as that call's kind says
-module _ (plan : Plan) (xs : List Entry) (n : Node) (id : HostId) (call : HostCall) (is : slice_get (called (past plan xs)) id.0 ≡ Some call) (x : Answer) where
-  same-call : (i : HostId) (other : HostCall) → Settle id x ≡ settles_well i → slice_get (called (past plan xs)) i.0 ≡ Some other → call ≡ other
+module _ (shape : Shape) (past : List Entry) (n : Node) (id : HostId) (call : HostCall) (is : slice_get (called past) id.0 ≡ Some call) (x : Answer) where
+  same-call : (i : HostId) (other : HostCall) → Settle id x ≡ settles_well i → slice_get (called past) i.0 ≡ Some other → call ≡ other
   same-call i other e c =
-      some_same call other (sym is ∙ (ap (λ (h : HostId). slice_get (called (past plan xs)) h.0) (id_of id i x e) ∙ c))
+      some_same call other (sym is ∙ (ap (λ (h : HostId). slice_get (called past) h.0) (id_of id i x e) ∙ c))
 
   pub may-settle : All (IsCause n) (failure_of (Settle id x)) → (call ≡ Close n.sink → x ≡ AnswerOk → n.output ≡ output.Finished)
       → ((i : StreamId) → call ≡ Flush i → x ≡ AnswerOk → (first last : List State) (w : State) → IsAt i n.stages.items first w last → w.work ≡ Over Fine)
-      → MayAsk plan xs n (Settle id x)
+      → MayAsk shape past n (Settle id x)
   may-settle failed close flush =
       record {
-        is_nodes = tt;
+        is_own = tt;
         failed = failed;
         closes = λ i e c. close (same-call i (Close n.sink) e c) (answer_of id i x e);
         flushes = λ i s e c first last w at. flush s (same-call i (Flush s) e c) (answer_of id i x e) first last w at;

@@ -10,7 +10,7 @@ use Rattle.ws_value.specs.declared.value.Plain.{Plain}
 use Rattle.ws_value.specs.declared.value.Plain.TheVariants.{Fault as FaultReason}
 use Rattle.ws_flow.specs.declared.plan.Ending.{Ending}
 use Rattle.ws_flow.specs.declared.plan.Ending.TheVariants.{Fine}
-use Rattle.ws_flow.specs.declared.plan.Plan.{Plan}
+use Rattle.ws_runner.specs.Shape.{Shape, count_in}
 use Rattle.ws_flow.specs.Parts.{AtWork, Live, Over}
 use Rattle.ws_stages.specs.State.{State, IsLive}
 use Rattle.ws_steps.specs.Run.{Entry}
@@ -27,7 +27,6 @@ use Rattle.ws_runner.specs.declared.node.Output.{Output}
 use Rattle.ws_runner.specs.declared.node.Output.TheVariants as output
 use Rattle.ws_runner.specs.Moves.{HasStages, stopped_by}
 use Rattle.ws_runner.specs.Node.{is_reached, stages_in}
-use Rattle.ws_runner.specs.Opening.{past}
 use Rattle.ws_runner.specs.Past.{EndedAs, IsCause, IsCauseFault, FlushesFine, IsPull, Counts, Led}
 
 -- each reason keeps its cause
@@ -40,16 +39,15 @@ pub all-causes : (a b : Node) (rs : List Plain) → ((f : Fault) → IsCauseFaul
 all-causes a b [] h c = All-nil (IsCause b)
 all-causes a b (r ∷ rs) h c = All-cons (IsCause b) r rs (cause-stays a b r h (All-head (IsCause a) r rs c)) (all-causes a b rs h (All-tail (IsCause a) r rs c))
 
-pub led-ahead : (plan : Plan) (xs : List Entry) (n : Node) (k : ℕ) → k ≤ n.ahead → Led plan xs n → Led plan xs (record n { ahead = k })
-led-ahead plan xs n k less s =
+pub led-ahead : (shape : Shape) (past : List Entry) (n : Node) (k : ℕ) → k ≤ n.ahead → Led shape past n → Led shape past (record n { ahead = k })
+led-ahead shape past n k less s =
     let c : Node = record n { ahead = k } in
     let counts = s.counts in
     record {
-      is_of = record { accepted = s.is_of.accepted; stages = s.is_of.stages; sink = s.is_of.sink; most = s.is_of.most; signal = s.is_of.signal };
-      slots = s.slots;
-      calls = s.calls;
-      answered = s.answered;
-      failed = all-causes n c (failures xs) same s.failed;
+      is_of = record { fit = s.is_of.fit; stages = s.is_of.stages; sink = s.is_of.sink; most = s.is_of.most; signal = s.is_of.signal };
+      ran = s.ran;
+      piped = s.piped;
+      failed = all-causes n c (failures past) same s.failed;
       closes = s.closes;
       flushes = s.flushes;
       asked = s.asked;
@@ -74,15 +72,14 @@ led-ahead plan xs n k less s =
       same fault.Abort h = h
       same _ h = absurd h
 
-pub led-output : (plan : Plan) (xs : List Entry) (n : Node) (o : Output) → (n.output ≢ output.Open → o ≡ n.output) → (o ≡ output.Aborted → is_reached n.abort ≡ true) → Led plan xs n
-    → Led plan xs (record n { output = o })
-led-output plan xs n o stays reached s =
+pub led-output : (shape : Shape) (past : List Entry) (n : Node) (o : Output) → (n.output ≢ output.Open → o ≡ n.output) → (o ≡ output.Aborted → is_reached n.abort ≡ true) → Led shape past n
+    → Led shape past (record n { output = o })
+led-output shape past n o stays reached s =
     record {
-      is_of = record { accepted = s.is_of.accepted; stages = s.is_of.stages; sink = s.is_of.sink; most = s.is_of.most; signal = s.is_of.signal };
-      slots = s.slots;
-      calls = s.calls;
-      answered = s.answered;
-      failed = all-causes n (record n { output = o }) (failures xs) same s.failed;
+      is_of = record { fit = s.is_of.fit; stages = s.is_of.stages; sink = s.is_of.sink; most = s.is_of.most; signal = s.is_of.signal };
+      ran = s.ran;
+      piped = s.piped;
+      failed = all-causes n (record n { output = o }) (failures past) same s.failed;
       closes = λ before after id e c. let was = s.closes before after id e c in stays (λ f. absurd (cc)) ∙ was;
       flushes = s.flushes;
       asked = s.asked;
@@ -99,15 +96,14 @@ led-output plan xs n o stays reached s =
       same fault.Abort h = h
       same _ h = absurd h
 
-pub led-abort : (plan : Plan) (xs : List Entry) (n : Node) (x : Option Abort) → option_map (λ a. a.signal) x ≡ option_map (λ a. a.signal) n.abort
-    → (is_reached n.abort ≡ true → is_reached x ≡ true) → Led plan xs n → Led plan xs (record n { abort = x })
-led-abort plan xs n x same_signal reached s =
+pub led-abort : (shape : Shape) (past : List Entry) (n : Node) (x : Option Abort) → option_map (λ a. a.signal) x ≡ option_map (λ a. a.signal) n.abort
+    → (is_reached n.abort ≡ true → is_reached x ≡ true) → Led shape past n → Led shape past (record n { abort = x })
+led-abort shape past n x same_signal reached s =
     record {
-      is_of = record { accepted = s.is_of.accepted; stages = s.is_of.stages; sink = s.is_of.sink; most = s.is_of.most; signal = same_signal ∙ s.is_of.signal };
-      slots = s.slots;
-      calls = s.calls;
-      answered = s.answered;
-      failed = all-causes n (record n { abort = x }) (failures xs) same s.failed;
+      is_of = record { fit = s.is_of.fit; stages = s.is_of.stages; sink = s.is_of.sink; most = s.is_of.most; signal = same_signal ∙ s.is_of.signal };
+      ran = s.ran;
+      piped = s.piped;
+      failed = all-causes n (record n { abort = x }) (failures past) same s.failed;
       closes = s.closes;
       flushes = s.flushes;
       asked = s.asked;
@@ -124,14 +120,13 @@ led-abort plan xs n x same_signal reached s =
       same fault.Abort h = reached h
       same _ h = absurd h
 
-pub led-asked : (plan : Plan) (xs : List Entry) (n : Node) (id : HostId) → IsPull (past plan xs) (Some id) → Led plan xs n → Led plan xs (record n { asked = Some id })
-led-asked plan xs n id pull s =
+pub led-asked : (shape : Shape) (past : List Entry) (n : Node) (id : HostId) → IsPull past (Some id) → Led shape past n → Led shape past (record n { asked = Some id })
+led-asked shape past n id pull s =
     record {
-      is_of = record { accepted = s.is_of.accepted; stages = s.is_of.stages; sink = s.is_of.sink; most = s.is_of.most; signal = s.is_of.signal };
-      slots = s.slots;
-      calls = s.calls;
-      answered = s.answered;
-      failed = all-causes n (record n { asked = Some id }) (failures xs) same s.failed;
+      is_of = record { fit = s.is_of.fit; stages = s.is_of.stages; sink = s.is_of.sink; most = s.is_of.most; signal = s.is_of.signal };
+      ran = s.ran;
+      piped = s.piped;
+      failed = all-causes n (record n { asked = Some id }) (failures past) same s.failed;
       closes = s.closes;
       flushes = s.flushes;
       asked = pull;
@@ -149,14 +144,13 @@ led-asked plan xs n id pull s =
       same _ h = absurd h
 
 -- no pull waits
-pub led-unasked : (plan : Plan) (xs : List Entry) (n : Node) → Led plan xs n → Led plan xs (record n { asked = None })
-led-unasked plan xs n s =
+pub led-unasked : (shape : Shape) (past : List Entry) (n : Node) → Led shape past n → Led shape past (record n { asked = None })
+led-unasked shape past n s =
     record {
-      is_of = record { accepted = s.is_of.accepted; stages = s.is_of.stages; sink = s.is_of.sink; most = s.is_of.most; signal = s.is_of.signal };
-      slots = s.slots;
-      calls = s.calls;
-      answered = s.answered;
-      failed = all-causes n (record n { asked = None }) (failures xs) same s.failed;
+      is_of = record { fit = s.is_of.fit; stages = s.is_of.stages; sink = s.is_of.sink; most = s.is_of.most; signal = s.is_of.signal };
+      ran = s.ran;
+      piped = s.piped;
+      failed = all-causes n (record n { asked = None }) (failures past) same s.failed;
       closes = s.closes;
       flushes = s.flushes;
       asked = tt;
@@ -177,15 +171,14 @@ led-unasked plan xs n s =
 abbrev pub answering : ℕ → ℕ → Input → Node → Node
 answering taken ahead i n = record n { taken = taken; ahead = ahead; input = i; asked = None }
 
-pub led-input : (plan : Plan) (xs : List Entry) (n : Node) (taken ahead : ℕ) (i : Input) → n.input ≡ input.Open → Counts n.most taken ahead i → Led plan xs n
-    → Led plan xs (answering taken ahead i n)
-led-input plan xs n taken ahead i was_open counts s =
+pub led-input : (shape : Shape) (past : List Entry) (n : Node) (taken ahead : ℕ) (i : Input) → n.input ≡ input.Open → Counts n.most taken ahead i → Led shape past n
+    → Led shape past (answering taken ahead i n)
+led-input shape past n taken ahead i was_open counts s =
     record {
-      is_of = record { accepted = s.is_of.accepted; stages = s.is_of.stages; sink = s.is_of.sink; most = s.is_of.most; signal = s.is_of.signal };
-      slots = s.slots;
-      calls = s.calls;
-      answered = s.answered;
-      failed = all-causes n (answering taken ahead i n) (failures xs) same s.failed;
+      is_of = record { fit = s.is_of.fit; stages = s.is_of.stages; sink = s.is_of.sink; most = s.is_of.most; signal = s.is_of.signal };
+      ran = s.ran;
+      piped = s.piped;
+      failed = all-causes n (answering taken ahead i n) (failures past) same s.failed;
       closes = s.closes;
       flushes = s.flushes;
       asked = tt;
@@ -242,9 +235,9 @@ stages-stay [] after w v e = ap (λ q. q ∷ map (λ q. q.stage) after) e
 stages-stay (b ∷ before) after w v e = ap (λ q. b.stage ∷ q) (stages-stay before after w v e)
 
 -- a stage that could be asked was
-pub led-stages : (plan : Plan) (xs : List Entry) (n c : Node) (before after : List State) (w v : State) → n.stages.items ≡ before ++ w ∷ after → IsLive w.work → v.stage ≡ w.stage
-    → HasStages (before ++ v ∷ after) n c → Led plan xs n → Led plan xs c
-led-stages plan xs n c before after w v whole live same_stage has s = subst (λ q. Led plan xs q) (sym has.is) led where
+pub led-stages : (shape : Shape) (past : List Entry) (n c : Node) (before after : List State) (w v : State) → n.stages.items ≡ before ++ w ∷ after → IsLive w.work → v.stage ≡ w.stage
+    → HasStages (before ++ v ∷ after) n c → Led shape past n → Led shape past c
+led-stages shape past n c before after w v whole live same_stage has s = subst (λ q. Led shape past q) (sym has.is) led where
   same : (f : Fault) → IsCauseFault n f → IsCauseFault (record n { stages = c.stages }) f
   same fault.Read h = h
   same fault.TooMuch h = h
@@ -256,15 +249,14 @@ led-stages plan xs n c before after w v whole live same_stage has s = subst (λ 
   kept : stages_in c ≡ stages_in n
   kept = ap (λ q. map (λ q. q.stage) q) has.items ∙ stages-stay before after w v same_stage ∙ sym (ap (λ q. map (λ q. q.stage) q) whole)
 
-  led : Led plan xs (record n { stages = c.stages })
+  led : Led shape past (record n { stages = c.stages })
   led = record {
-    is_of = record { accepted = s.is_of.accepted; stages = kept ∙ s.is_of.stages; sink = s.is_of.sink; most = s.is_of.most; signal = s.is_of.signal };
-    slots = s.slots;
-    calls = s.calls;
-    answered = s.answered;
-    failed = all-causes n (record n { stages = c.stages }) (failures xs) same s.failed;
+    is_of = record { fit = s.is_of.fit; stages = kept ∙ s.is_of.stages; sink = s.is_of.sink; most = s.is_of.most; signal = s.is_of.signal };
+    ran = s.ran;
+    piped = s.piped;
+    failed = all-causes n (record n { stages = c.stages }) (failures past) same s.failed;
     closes = s.closes;
-    flushes = fine-stays (past plan xs) before after w v n.stages.items c.stages.items whole has.items live s.flushes;
+    flushes = fine-stays past before after w v n.stages.items c.stages.items whole has.items live s.flushes;
     asked = s.asked;
     aborts = s.aborts;
     age = s.age;
@@ -272,14 +264,13 @@ led-stages plan xs n c before after w v whole live same_stage has s = subst (λ 
     spent = s.spent;
   }
 
-pub led-stopped : (plan : Plan) (xs : List Entry) (n : Node) (why : Why) → (why ≡ Spent → n.realm.slots.age ≡ oldest) → Led plan xs n → Led plan xs (stopped_by why n)
-led-stopped plan xs n why spent s =
+pub led-stopped : (shape : Shape) (past : List Entry) (n : Node) (why : Why) → (why ≡ Spent → n.realm.slots.age ≡ oldest) → Led shape past n → Led shape past (stopped_by why n)
+led-stopped shape past n why spent s =
     record {
-      is_of = record { accepted = s.is_of.accepted; stages = s.is_of.stages; sink = s.is_of.sink; most = s.is_of.most; signal = s.is_of.signal };
-      slots = s.slots;
-      calls = s.calls;
-      answered = s.answered;
-      failed = all-causes n (stopped_by why n) (failures xs) same s.failed;
+      is_of = record { fit = s.is_of.fit; stages = s.is_of.stages; sink = s.is_of.sink; most = s.is_of.most; signal = s.is_of.signal };
+      ran = s.ran;
+      piped = s.piped;
+      failed = all-causes n (stopped_by why n) (failures past) same s.failed;
       closes = s.closes;
       flushes = s.flushes;
       asked = s.asked;

@@ -1,5 +1,5 @@
 -- How a node ends, by how its last pipe settled.
-use Rattle.std.proofs.Common.{◌≡◌, ◌≢◌, ◌+◌, ◌*◌, ◌≤◌, ℕ, Bool, true, false, List, Option, Some, None, slice_get, refl, sym, ap, ◌∙◌, subst, arith}
+use Rattle.std.proofs.Common.{◌≡◌, ◌≢◌, ℕ, Bool, true, false, List, [], Option, Some, None, slice_get, refl, sym, ap, ◌∙◌, subst, append-nil, arith}
 use Rattle.std.proofs.lemmas.List.Elements.{All-contains}
 use Rattle.std.specs.Prelude.{is_some}
 use Rattle.ws_value.specs.declared.fault.Fault.TheVariants.{Read, Write, Stage, TooMuch, Abort}
@@ -10,27 +10,20 @@ use Rattle.ws_value.specs.declared.value.Outcome.TheVariants.{Pending, Fulfilled
 use Rattle.ws_value.specs.declared.value.Plain.{Plain}
 use Rattle.ws_value.specs.declared.value.Plain.TheVariants.{Fault as FaultReason}
 use Rattle.ws_value.specs.declared.value.Value.{Value}
-use Rattle.ws_flow.specs.declared.plan.Plan.{Plan}
-use Rattle.ws_flow.proofs.Lengths.{accepted}
+use Rattle.ws_runner.specs.Shape.{Shape, count_in}
 use Rattle.ws_io.specs.declared.status.Status.{Status}
 use Rattle.ws_io.specs.declared.status.Status.TheVariants.{Done, NoMemory}
 use Rattle.ws_steps.specs.declared.calls.HostCall.TheVariants.{Close}
 use Rattle.ws_steps.specs.Pipes as pipe
 use Rattle.ws_steps.specs.Promises.{outcome_at, rank_at}
 use Rattle.ws_steps.specs.Run.{Entry, run}
-use Rattle.ws_steps.specs.Slots.{Slots, empty, most_streams, pipe_at}
+use Rattle.ws_steps.specs.Slots.{Slots, empty, pipe_at}
 use Rattle.ws_end_laws.specs.PromiseEnds.{IsOpenUntilTheEnd, outcome_of_end}
 use Rattle.ws_end_laws.proofs.PromiseEnds.{each_promise_is_open_until_the_end}
 use Rattle.ws_pipe_laws.specs.PipeHistory.{is_over, run_course}
 use Rattle.ws_host_laws.specs.HostCalls.{WasSettledWell}
 use Rattle.ws_chain_laws.specs.Chain.{FromBytes, ToSink, dest_of, link_of}
-use Rattle.ws_chain_laws.specs.Opening.{BeginsChain, chained}
-use Rattle.ws_chain_laws.specs.Outcomes.{last_promise, ChainEnds}
-use Rattle.ws_chain_laws.specs.Runs.{NodeGoes}
-use Rattle.ws_chain_laws.proofs.Begins.{each_chain_begins}
 use Rattle.ws_chain_laws.proofs.Links.{link-at}
-use Rattle.ws_chain_laws.proofs.Outcomes.{each_chain_ends}
-use Rattle.ws_chain_laws.proofs.Runs.{each_node_goes}
 use Rattle.ws_realm.specs.Seen.{outcome_named, where_named}
 use Rattle.ws_realm.specs.declared.realm.Why.TheVariants as why
 use Rattle.ws_reason_laws.specs.Reasons.{failures}
@@ -39,12 +32,8 @@ use Rattle.ws_runner.specs.declared.node.Output.{Output}
 use Rattle.ws_runner.specs.declared.node.Output.TheVariants as output
 use Rattle.ws_runner.specs.Ends.{EndsAs, EndsBy, IsNamed, status_of, unless_finished}
 use Rattle.ws_runner.specs.Node.{outcome_of_pipe, has_settled}
-use Rattle.ws_runner.specs.Opening.{IsAccepted, count_of, is_aborted, past}
 use Rattle.ws_runner.specs.Past.{IsCause, Led, Driven}
-
--- an accepted plan has few streams
-pub few-streams : (plan : Plan) → IsAccepted plan → 2 * count_of plan + 2 ≤ most_streams
-few-streams plan h = let few = (accepted plan h).stages in omega arith
+use Rattle.ws_runner.specs.Ran.{PipeEnds}
 
 -- what a realm answers of a promise that it named
 where_is : (rank : Option ℕ) (o : Option Outcome) → is_some rank ≡ true → where_named rank o ≡ o
@@ -60,66 +49,46 @@ settles-by : (x : pipe.Slots) (over : Bool) (ended : List (Option Plain)) (o : O
 settles-by x false ended o e k = IsPending (k.before e).1
 settles-by x true ended o e k = let a = k.after e in HasEnded a.0 a.1.1
 
-module _ (plan : Plan) (xs : List Entry) (n : Node) (led : Led plan xs n) where
+module _ (shape : Shape) (past : List Entry) (n : Node) (led : Led shape past n) where
   abbrev k : ℕ
-  k = count_of plan
-
-  abbrev signalled : Bool
-  signalled = is_aborted plan
-
-  -- the last pipe's promise
-  abbrev promise : PromiseId
-  promise = last_promise FromBytes ToSink k signalled
+  k = count_in shape
 
   abbrev out : Option Outcome
-  out = outcome_at (run (past plan xs) empty).promises promise
+  out = outcome_at (run past empty).promises n.pipe
 
-  few : 2 * k + 2 ≤ most_streams
-  few = few-streams plan led.is_of.accepted
-
-  begins : BeginsChain FromBytes ToSink k signalled
-  begins = each_chain_begins FromBytes ToSink k signalled few
-
-  ends : ChainEnds FromBytes ToSink k signalled xs
-  ends = each_chain_ends FromBytes ToSink k signalled xs few
-
-  goes : NodeGoes FromBytes ToSink k signalled xs
-  goes = each_node_goes FromBytes ToSink k signalled xs few led.calls
-
-  its : n.pipe ≡ promise
-  its = let a = led.answered in let b = begins.last in cc
+  ends : PipeEnds k past n.pipe
+  ends = subst (λ (es : List Entry). PipeEnds k es n.pipe) (append-nil past) (led.piped [])
 
   outcome-is : outcome_of_pipe n ≡ out
-  outcome-is =
-      ap (λ (p : PromiseId). outcome_named p n.realm.slots) its
-      ∙ (ap (λ (s : Slots). outcome_named promise s) led.slots
-      ∙ where_is (rank_at (run (past plan xs) empty).promises promise) out (ends.watched k (omega arith)))
+  outcome-is = ap (λ (s : Slots). outcome_named n.pipe s) led.ran.slots ∙ where_is (rank_at (run past empty).promises n.pipe) out ends.watched
 
   settles : Settles out
   settles =
-      let s : Slots = run (past plan xs) empty in
+      let s : Slots = run past empty in
       let x = pipe_at (link_of k) s in
       let there : slice_get s.pipes k ≡ Some x =
-      subst (λ (z : Slots). slice_get z.pipes k ≡ Some (pipe_at (link_of k) z)) (sym ends.slots) (link-at FromBytes ToSink k (run xs (chained FromBytes ToSink k signalled)) goes.chain k (omega arith)).link.there in
-      settles-by x (is_over x.phase) (run_course (link_of k) (past plan xs) empty).ended out refl
-      (subst (λ (p : PromiseId). IsOpenUntilTheEnd x (run_course (link_of k) (past plan xs) empty).ended (outcome_at s.promises p)) (ends.pipes k (omega arith))
-      (each_promise_is_open_until_the_end (past plan xs) (link_of k) x there))
+      subst (λ (z : Slots). slice_get z.pipes k ≡ Some (pipe_at (link_of k) z)) led.ran.slots (link-at FromBytes ToSink k n.realm.slots led.ran.wired k (omega arith)).link.there in
+      settles-by x (is_over x.phase) (run_course (link_of k) past empty).ended out refl
+      (subst (λ (p : PromiseId). IsOpenUntilTheEnd x (run_course (link_of k) past empty).ended (outcome_at s.promises p)) ends.its
+      (each_promise_is_open_until_the_end past (link_of k) x there))
 
   finished : (v : Plain) → out ≡ Some (Fulfilled v) → n.output ≡ output.Finished
   finished v e =
-      let w : WasSettledWell (past plan xs) (Close (dest_of k)) = (goes.fulfilled v refl e).settled in
+      let w : WasSettledWell past (Close (dest_of k)) = (ends.fulfilled v e).settled in
       led.closes w.before w.after w.id w.settles (w.called ∙ ap (λ (i : StreamId). Some (Close i)) (sym led.is_of.sink))
 
   cause : (r : Plain) → out ≡ Some (Rejected r) → IsCause n r
-  cause r e = All-contains (IsCause n) (failures xs) r led.failed (goes.rejected r (λ clone. refl) e)
+  cause r e =
+      All-contains (IsCause n) (failures past) r led.failed
+      (ends.rejected r led.ran.quiet (λ pair. subst (λ (s : Slots). s.tees ≡ []) led.ran.slots led.ran.teeless) (λ clone. subst (λ (s : Slots). s.ports ≡ []) led.ran.slots led.ran.portless) e)
 
 -- the output was finished
 pub fulfilled : (n : Node) (v : Plain) → Driven n → outcome_of_pipe n ≡ Some (Fulfilled v) → n.output ≡ output.Finished
-fulfilled n v d e = let led = d.since.led in finished d.plan d.xs n led v (sym (outcome-is d.plan d.xs n led) ∙ e)
+fulfilled n v d e = let led = d.since.led in finished d.shape d.past n led v (sym (outcome-is d.shape d.past n led) ∙ e)
 
 -- the outcome of the last pipe's promise is there, and is none of a read
 settled : (n : Node) → Driven n → Settles (outcome_of_pipe n)
-settled n d = let led = d.since.led in subst Settles (sym (outcome-is d.plan d.xs n led)) (settles d.plan d.xs n led)
+settled n d = let led = d.since.led in subst Settles (sym (outcome-is d.shape d.past n led)) (settles d.shape d.past n led)
 
 none_settles : (o : Option Outcome) → Settles o → o ≢ None
 none_settles o (IsPending e) f = absurd (cc)
@@ -178,7 +147,7 @@ by-unless n output.Aborted status e h = h (λ f. cc)
 pub rejected : (n : Node) (r : Plain) → Driven n → outcome_of_pipe n ≡ Some (Rejected r) → IsNamed r × EndsBy (unless_finished n.output (status_of r)) n
 rejected n r d e =
     let led = d.since.led in
-    let c = cause d.plan d.xs n led r (sym (outcome-is d.plan d.xs n led) ∙ e) in
+    let c = cause d.shape d.past n led r (sym (outcome-is d.shape d.past n led) ∙ e) in
     (named-by n r c, by-unless n n.output (status_of r) refl (λ other. by-cause n r other c))
 
 -- what a node's status is

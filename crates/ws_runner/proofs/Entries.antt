@@ -4,24 +4,19 @@ use Rattle.std.specs.Prelude.{slice_get}
 use Rattle.ws_value.specs.declared.ids.HostId.{HostId}
 use Rattle.ws_value.specs.declared.ids.StreamId.{StreamId}
 use Rattle.ws_flow.specs.declared.plan.Ending.TheVariants.{Fine}
-use Rattle.ws_flow.specs.declared.plan.Plan.{Plan}
 use Rattle.ws_flow.specs.Parts.{Over}
 use Rattle.ws_stages.specs.State.{State}
 use Rattle.ws_steps.specs.declared.calls.HostCall.{HostCall}
 use Rattle.ws_steps.specs.declared.calls.HostCall.TheVariants.{Close, Flush}
 use Rattle.ws_steps.specs.Run.{Entry, Called, Worked, Heard, run, step}
 use Rattle.ws_steps.specs.Slots.{Slots}
-use Rattle.ws_chain_laws.specs.Opening.{piping, signal_of, opening}
-use Rattle.ws_chain_laws.specs.Runs.{AreNodes}
 use Rattle.ws_host_laws.proofs.Called.{place-grows, each_event_is_its_call}
 use Rattle.ws_host_laws.specs.HostCalls.{called, settles_well}
 use Rattle.ws_reason_laws.specs.Reasons.{failures, failure_of}
 use Rattle.ws_runner.specs.declared.node.Output.{Output}
 use Rattle.ws_runner.specs.declared.node.Output.TheVariants as output
 use Rattle.ws_runner.specs.Moves.{IsAt}
-use Rattle.ws_runner.specs.Opening.{count_of, is_aborted, past}
 use Rattle.ws_runner.specs.Past.{ClosesFinished, FlushesFine, IsPull}
-use Rattle.ws_chain_laws.specs.Chain.{FromBytes, ToSink}
 
 pub run-snoc : (xs : List Entry) (x : Entry) (s : Slots) → run (xs ++ x ∷ []) s ≡ step (run xs s) x
 run-snoc [] x s = refl
@@ -32,17 +27,6 @@ failures-snoc [] x = refl
 failures-snoc (Called c ∷ ys) x = ap (λ q. failure_of c ++ q) (failures-snoc ys x) ∙ sym (append_assoc (failure_of c) (failures ys) (failures (x ∷ [])))
 failures-snoc (Worked ∷ ys) x = failures-snoc ys x
 failures-snoc (Heard ∷ ys) x = failures-snoc ys x
-
-pub nodes-snoc : (xs : List Entry) (x : Entry) → AreNodes xs → AreNodes (x ∷ []) → AreNodes (xs ++ x ∷ [])
-nodes-snoc [] x a b = b
-nodes-snoc (Called c ∷ ys) x a b = (a.0, nodes-snoc ys x a.1 b)
-nodes-snoc (Worked ∷ ys) x a b = nodes-snoc ys x a b
-nodes-snoc (Heard ∷ ys) x a b = nodes-snoc ys x a b
-
--- the opening stands before all
-pub past-longer : (plan : Plan) (xs more : List Entry) → past plan (xs ++ more) ≡ past plan xs ++ more
-past-longer plan xs more =
-    sym (append_assoc (opening FromBytes ToSink (count_of plan) (is_aborted plan)) (Called (piping (signal_of (is_aborted plan)) (count_of plan)) ∷ xs) more)
 
 -- a call of the host has the same number in a longer past
 pub called-longer : (entries more : List Entry) (id : HostId) (call : HostCall) → slice_get (called entries) id.0 ≡ Some call

@@ -2,11 +2,10 @@
 use Rattle.std.proofs.Common.{◌≡◌, ◌≢◌, ◌<◌, ◌≤◌, ◌+◌, ℕ, suc, List, [], ◌∷◌, ◌++◌, Option, Some, None, length, map, refl, sym, ap, ◌∙◌, subst, append-nil, append_assoc, length-append, arith}
 use Rattle.std.specs.List.{concat, All}
 use Rattle.std.proofs.lemmas.List.Elements.{All-nil, All-append}
-use Rattle.ws_flow.specs.declared.plan.Plan.{Plan}
+use Rattle.ws_runner.specs.Shape.{Shape, count_in}
 use Rattle.ws_flow.specs.declared.plan.Stage.{Stage}
 use Rattle.ws_flow.specs.Machines.{Machine}
 use Rattle.ws_flow.specs.Parts.{AtWork, fresh, Goes}
-use Rattle.ws_flow.specs.Plans.{stages_of}
 use Rattle.ws_flow.specs.Stages.{machines}
 use Rattle.ws_flow.specs.Steps.{parts_at, behind_of}
 use Rattle.ws_flow.specs.Told.{bytes_of, Mark, Open as MayCome, Closed, Broken, Lost, Told, told, goes_on, then_told, IsShortOf}
@@ -28,7 +27,6 @@ use Rattle.ws_runner.specs.declared.node.Node.{Node}
 use Rattle.ws_runner.specs.declared.node.Output.{Output}
 use Rattle.ws_runner.specs.declared.node.Output.TheVariants as output
 use Rattle.ws_runner.specs.Node.{lies_in, lying, nothing_yet, parts, stages_in, works_in}
-use Rattle.ws_runner.specs.Opening.{count_of}
 use Rattle.ws_runner.specs.Past.{IsFed}
 use Rattle.ws_runner.specs.Went.{InputGoes, LeftAlone, OutputGoes, StopsAt, ComesNear, AbortGoes, DoesNothing, Went}
 use Rattle.ws_runner.proofs.StillOpen.{was-open, still-open}
@@ -443,8 +441,8 @@ length-works (w ∷ ws) = ap suc (length-works ws)
 pub as-many : (a : Node) → length (machines (stages_in a)) ≡ length (works_in a)
 as-many a = length-machines (stages_in a) ∙ sym (length-works a.stages.items)
 
-pub works-count : (plan : Plan) (a : Node) → stages_in a ≡ stages_of plan → length (works_in a) ≡ count_of plan
-works-count plan a stages = length-works a.stages.items ∙ ap length stages
+pub works-count : (shape : Shape) (a : Node) → stages_in a ≡ shape.stages → length (works_in a) ≡ count_in shape
+works-count shape a stages = length-works a.stages.items ∙ ap length stages
 
 pub went-same : (a : Node) (m : Moment) (p : List ℕ → Type 0) → Went a a m m p p
 went-same a m p =
@@ -453,19 +451,19 @@ went-same a m p =
     (goes_rests (machines (stages_in a)) 0 (works_in a) (lies_in a) (lies_in a) (as-many a) (λ j h k. short_refl (lies_in a j)))
 
 -- only the realm changed, and of what lay at each place nothing is lost unseen
-pub went-rests : (plan : Plan) (a b : Node) (m : Moment) (p q : List ℕ → Type 0) → Gains p q [] → Stays a b → stages_in a ≡ stages_of plan → OnlyRealm a b
-    → ((k : ℕ) → k ≤ count_of plan → IsShortOf (lies_in b k) (lies_in a k)) → Went a b m m p q
-went-rests plan a b m p q gained stays stages only short =
+pub went-rests : (shape : Shape) (a b : Node) (m : Moment) (p q : List ℕ → Type 0) → Gains p q [] → Stays a b → stages_in a ≡ shape.stages → OnlyRealm a b
+    → ((k : ℕ) → k ≤ count_in shape → IsShortOf (lies_in b k) (lies_in a k)) → Went a b m m p q
+went-rests shape a b m p q gained stays stages only short =
     went-quietly a b m p q gained stays (only-same a b only)
     (subst (λ (ws : List AtWork). Goes (machines (stages_in a)) nothing_yet (parts a) (lying a) (parts_at 0 ws (lies_in b)) (behind_of 0 ws (lies_in b))) (sym works)
-    (goes_rests (machines (stages_in a)) 0 (works_in a) (lies_in a) (lies_in b) (as-many a) (λ j h k. short j (let l = works-count plan a stages in omega arith)))) where
+    (goes_rests (machines (stages_in a)) 0 (works_in a) (lies_in a) (lies_in b) (as-many a) (λ j h k. short j (let l = works-count shape a stages in omega arith)))) where
       works : works_in b ≡ works_in a
       works = ap works_in only.is
 
 -- the flow since a node was made goes on
-pub fed-went : (plan : Plan) (a b : Node) (m₀ m₁ : Moment) (p q : List ℕ → Type 0) → IsFed plan a → stages_in a ≡ stages_of plan → Went a b m₀ m₁ p q → IsFed plan b
-fed-went plan a b m₀ m₁ p q fed stages went =
-    let ms : List Machine = machines (stages_of plan) in
+pub fed-went : (ss : List Stage) (a b : Node) (m₀ m₁ : Moment) (p q : List ℕ → Type 0) → IsFed ss a → stages_in a ≡ ss → Went a b m₀ m₁ p q → IsFed ss b
+fed-went ss a b m₀ m₁ p q fed stages went =
+    let ms : List Machine = machines ss in
     let goes : Goes ms went.read (parts a) (lying a) (parts b) (then_told went.went (lying b)) =
     subst (λ q. Goes (machines q) went.read (parts a) (lying a) (parts b) (then_told went.went (lying b))) stages went.goes in
     record {

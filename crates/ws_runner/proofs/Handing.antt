@@ -2,7 +2,7 @@
 use Rattle.std.proofs.Common.{◌≡◌, ◌≤◌, ℕ, List, [], ◌∷◌, Option, None, refl, sym, subst}
 use Rattle.ws_value.specs.declared.value.Value.{Value}
 use Rattle.ws_value.specs.declared.value.Value.TheVariants.{Plain as PlainValue, Bytes}
-use Rattle.ws_flow.specs.declared.plan.Plan.{Plan}
+use Rattle.ws_runner.specs.Shape.{Shape, count_in}
 use Rattle.ws_flow.specs.Told.{Open, Told, told, then_told, IsShortOf}
 use Rattle.ws_flow.proofs.Told.{then_assoc, short_same, short_right}
 use Rattle.ws_steps.specs.declared.calls.Event.{Event}
@@ -14,7 +14,6 @@ use Rattle.ws_realm.specs.declared.realm.Why.{Why}
 use Rattle.ws_runner.specs.declared.node.Node.{Node}
 use Rattle.ws_runner.specs.Moves.{with_realm}
 use Rattle.ws_runner.specs.Node.{in_bytes, lying_by, nothing_yet}
-use Rattle.ws_runner.specs.Opening.{count_of}
 use Rattle.ws_runner.specs.Past.{IsOne, OneAtMost}
 use Rattle.ws_runner.proofs.Bytes.{in_bytes-then, in_bytes-short, one-short}
 use Rattle.ws_runner.proofs.Since.{AfterEvent}
@@ -39,17 +38,17 @@ one-heard n v x y h o = by v (one-short n (then_told (told (v ∷ []) Open) x) y
   by (Bytes piece) (e, h, k) = (e, (refl, h, k))
   by (PlainValue w) o = absurd o
 
-module _ (plan : Plan) (xs : List Entry) (a : Node) (realm : SeenRealm) (e : Event) (after : AfterEvent plan xs a realm e) (goes : a.stopped ≡ None) where
+module _ (shape : Shape) (past : List Entry) (a : Node) (realm : SeenRealm) (e : Event) (after : AfterEvent shape past a realm e) (goes : a.stopped ≡ None) where
   -- what is heard lay first
-  pub heard-lies : (t : Told (List ℕ)) (k : ℕ) → k ≤ count_of plan
-      → IsShortOf (then_told (in_bytes (heard_at FromBytes ToSink (count_of plan) k e)) (lies_to t (with_realm realm a) k)) (lies_to t a k)
+  pub heard-lies : (t : Told (List ℕ)) (k : ℕ) → k ≤ count_in shape
+      → IsShortOf (then_told (in_bytes (heard_at FromBytes ToSink (count_in shape) k e)) (lies_to t (with_realm realm a) k)) (lies_to t a k)
   heard-lies t k less =
-      subst (λ (why : Option Why). IsShortOf (then_told (in_bytes (heard_at FromBytes ToSink (count_of plan) k e)) (lying_by why (then_told (in_bytes (behind_at k realm.slots)) t)))
+      subst (λ (why : Option Why). IsShortOf (then_told (in_bytes (heard_at FromBytes ToSink (count_in shape) k e)) (lying_by why (then_told (in_bytes (behind_at k realm.slots)) t)))
       (lying_by why (then_told (in_bytes (behind_at k a.realm.slots)) t))) (sym goes)
-      (heard_short (heard_at FromBytes ToSink (count_of plan) k e) (behind_at k realm.slots) (behind_at k a.realm.slots) t (after.short k less))
+      (heard_short (heard_at FromBytes ToSink (count_in shape) k e) (behind_at k realm.slots) (behind_at k a.realm.slots) t (after.short k less))
 
   -- so what lies there is short of that where nothing of bytes is heard
-  pub unheard-lies : (t : Told (List ℕ)) (k : ℕ) → k ≤ count_of plan → in_bytes (heard_at FromBytes ToSink (count_of plan) k e) ≡ nothing_yet
+  pub unheard-lies : (t : Told (List ℕ)) (k : ℕ) → k ≤ count_in shape → in_bytes (heard_at FromBytes ToSink (count_in shape) k e) ≡ nothing_yet
       → IsShortOf (lies_to t (with_realm realm a) k) (lies_to t a k)
   unheard-lies t k less quiet =
       subst (λ q. IsShortOf (then_told q (lies_to t (with_realm realm a) k)) (lies_to t a k)) quiet (heard-lies t k less)

@@ -1,6 +1,6 @@
 -- A node that was led on, and how it went there.
 use Rattle.std.proofs.Common.{◌≡◌, ℕ, List, None}
-use Rattle.ws_flow.specs.declared.plan.Plan.{Plan}
+use Rattle.ws_runner.specs.Shape.{Shape, count_in}
 use Rattle.ws_io.specs.Feed.{Feed}
 use Rattle.ws_io.specs.Moment.{Moment, moment}
 use Rattle.std.specs.Prelude.{Option}
@@ -11,9 +11,9 @@ use Rattle.ws_runner.specs.Past.{Led, ArePushed, HasOne, Since, Driven}
 use Rattle.ws_runner.specs.Went.{Went}
 use Rattle.ws_runner.proofs.Going.{fed-went}
 
-pub record Handled (plan : Plan) (a b : Node) (old new : Moment) (p q : List ℕ → Type 0) : Type 0 where
-  pub xs : List Entry
-  pub led : Led plan xs b
+pub record Handled (shape : Shape) (a b : Node) (old new : Moment) (p q : List ℕ → Type 0) : Type 0 where
+  pub past : List Entry
+  pub led : Led shape past b
   pub pushes : b.stopped ≡ None → ArePushed b.realm.slots.age b.stages.items
   pub one : HasOne b
   pub went : Went a b old new p q
@@ -22,9 +22,9 @@ pub record Handled (plan : Plan) (a b : Node) (old new : Moment) (p q : List ℕ
 abbrev pub shows : ℕ → Option Feed → Shown → Moment
 shows faults feed shown = moment faults feed shown.faults shown.finished
 
-pub since-handled : (plan : Plan) (xs : List Entry) (a b : Node) (old new : Moment) (p q : List ℕ → Type 0) → Since plan xs a → (h : Handled plan a b old new p q) → Since plan h.xs b
-since-handled plan xs a b old new p q s h =
-    record { led = h.led; pushes = h.pushes; one = h.one; fed = fed-went plan a b old new p q s.fed s.led.is_of.stages h.went }
+pub since-handled : (shape : Shape) (past : List Entry) (a b : Node) (old new : Moment) (p q : List ℕ → Type 0) → Since shape past a → (h : Handled shape a b old new p q) → Since shape h.past b
+since-handled shape past a b old new p q s h =
+    record { led = h.led; pushes = h.pushes; one = h.one; fed = fed-went shape.stages a b old new p q s.fed s.led.is_of.stages h.went }
 
-pub driven-handled : (plan : Plan) (xs : List Entry) (a b : Node) (old new : Moment) (p q : List ℕ → Type 0) → Since plan xs a → Handled plan a b old new p q → Driven b
-driven-handled plan xs a b old new p q s h = record { plan = plan; xs = h.xs; since = since-handled plan xs a b old new p q s h }
+pub driven-handled : (shape : Shape) (past : List Entry) (a b : Node) (old new : Moment) (p q : List ℕ → Type 0) → Since shape past a → Handled shape a b old new p q → Driven b
+driven-handled shape past a b old new p q s h = record { shape = shape; past = h.past; since = since-handled shape past a b old new p q s h }

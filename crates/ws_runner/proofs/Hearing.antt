@@ -8,13 +8,11 @@ use Rattle.ws_value.specs.declared.ids.StreamId.{StreamId}
 use Rattle.ws_value.specs.declared.value.Plain.{Plain}
 use Rattle.ws_value.specs.declared.value.Value.{Value}
 use Rattle.ws_value.specs.declared.value.Value.TheVariants.{Bytes, Plain as PlainValue}
-use Rattle.ws_flow.specs.declared.plan.Plan.{Plan}
+use Rattle.ws_runner.specs.Shape.{Shape, count_in}
 use Rattle.ws_flow.specs.Laws.{AreShort}
-use Rattle.ws_flow.specs.Plans.{stages_of}
 use Rattle.ws_flow.specs.Steps.{parts_at}
 use Rattle.ws_flow.specs.Told.{Open, Told, told, then_told, IsShortOf}
 use Rattle.ws_flow.proofs.EachKind.{kind}
-use Rattle.ws_flow.proofs.Lengths.{accepted}
 use Rattle.ws_flow.proofs.Lying.{lying_short, short_at}
 use Rattle.ws_flow.proofs.Told.{before_front, before_of_short, short_right}
 use Rattle.ws_io.specs.Feed.{Feed}
@@ -37,7 +35,6 @@ use Rattle.ws_realm.specs.declared.realm.Why.{Why}
 use Rattle.ws_runner.specs.declared.node.Node.{Node}
 use Rattle.ws_runner.specs.Moves.{Answers, Hears, IsAt, MayAnswer, MayHear, Settles, Shown, Untouched, finishes_by, with_realm, writes_by}
 use Rattle.ws_runner.specs.Node.{coming, in_bytes, lies_in, lying, lying_by, nothing_yet, parts, works_in}
-use Rattle.ws_runner.specs.Opening.{count_of}
 use Rattle.ws_runner.specs.Past.{ArePushed, HasOne, OneAtMost, Since, may_have}
 use Rattle.ws_runner.proofs.Answering.{closed, noted, pulled, settled, wrote}
 use Rattle.ws_runner.proofs.Bytes.{in_bytes-short, one-short}
@@ -57,9 +54,9 @@ among : (P : State → Type 0) (before after : List State) (w : State) → All P
 among P [] after w h = All-head P w after h
 among P (u ∷ before) after w h = among P before after w (All-tail P u (before ++ w ∷ after) h)
 
-module _ (plan : Plan) (xs : List Entry) (a : Node) (realm : SeenRealm) (since : Since plan xs a) (goes : a.stopped ≡ None) (id : HostId) where
+module _ (shape : Shape) (past : List Entry) (a : Node) (realm : SeenRealm) (since : Since shape past a) (goes : a.stopped ≡ None) (id : HostId) where
   -- the one chunk on the first link is that which was counted
-  one-counted : (call : HostCall) (piece : List ℕ) → AfterEvent plan xs a realm (Host id call) → heard_at FromBytes ToSink (count_of plan) 0 (Host id call) ≡ told (Bytes piece ∷ []) Open
+  one-counted : (call : HostCall) (piece : List ℕ) → AfterEvent shape past a realm (Host id call) → heard_at FromBytes ToSink (count_in shape) 0 (Host id call) ≡ told (Bytes piece ∷ []) Open
       → may_have a.stages.items a.output a.abort ≡ true → length piece ≤ a.ahead
   one-counted call piece event is may =
       let o = one-heard a.ahead (Bytes piece) (behind_at 0 realm.slots) (behind_at 0 a.realm.slots)
@@ -68,61 +65,61 @@ module _ (plan : Plan) (xs : List Entry) (a : Node) (realm : SeenRealm) (since :
       omega arith
 
   heard-stage : (i : StreamId) (before after : List State) (w : State) (v : Value) → IsAt i a.stages.items before w after
-      → heard_at FromBytes ToSink (count_of plan) (length before) (Host id (Transform i v)) ≡ told (v ∷ []) Open
+      → heard_at FromBytes ToSink (count_in shape) (length before) (Host id (Transform i v)) ≡ told (v ∷ []) Open
   heard-stage i before after w v at =
-      let e = count-is plan a before after w goes since.led.is_of.stages at.whole in
+      let e = count-is shape a before after w goes since.led.is_of.stages at.whole in
       let j = length before in
-      subst (λ (s : StreamId). heard_at FromBytes ToSink (count_of plan) j (Host id (Transform s v)) ≡ told (v ∷ []) Open) (sym at.place)
-      ((each_event_is_heard_at_one_link FromBytes ToSink (count_of plan) j (omega arith)).transform id j v (omega arith) ∙ at-there j (told (v ∷ []) Open))
+      subst (λ (s : StreamId). heard_at FromBytes ToSink (count_in shape) j (Host id (Transform s v)) ≡ told (v ∷ []) Open) (sym at.place)
+      ((each_event_is_heard_at_one_link FromBytes ToSink (count_in shape) j (omega arith)).transform id j v (omega arith) ∙ at-there j (told (v ∷ []) Open))
 
   -- a chunk that comes to a stage which may be asked is below 2^25 bytes
   stage-short : (i : StreamId) (piece : List ℕ) (before after : List State) (w : State) → IsAt i a.stages.items before w after → IsLive w.work
-      → AfterEvent plan xs a realm (Host id (Transform i (Bytes piece))) → length piece < 33554432
+      → AfterEvent shape past a realm (Host id (Transform i (Bytes piece))) → length piece < 33554432
   stage-short i piece before after w at live event =
       let j = length before in
-      let n = count_of plan in
-      let e = count-is plan a before after w goes since.led.is_of.stages at.whole in
-      let plan_is = accepted plan since.led.is_of.accepted in
+      let n = count_in shape in
+      let e = count-is shape a before after w goes since.led.is_of.stages at.whole in
+      let fit = since.led.is_of.fit in
       let fed = since.fed in
-      let short = (lying_short (stages_of plan) fed.came (parts a) (then_told fed.went (lying a)) plan_is.range plan_is.hex plan_is.stages fed.short fed.flows).0 in
-      let here = works-are plan a before after w goes since.led.is_of.stages at.whole ∙ ap (λ q. works before ++ q ∷ works after) (live-is w.work live) in
+      let short = (lying_short shape.stages fed.came (parts a) (then_told fed.went (lying a)) fit.range fit.hex fit.few fed.short fed.flows).0 in
+      let here = works-are shape a before after w goes since.led.is_of.stages at.whole ∙ ap (λ q. works before ++ q ∷ works after) (live-is w.work live) in
       let P : List ℕ → Type 0 = λ c. length c < 33554432 in
       let all : All P (lies_in a j).items = short_at 0 (works before) (kept_in w.work) (works after) (lies_in a) j (subst (λ ws. AreShort (parts_at 0 ws (lies_in a))) here short)
       (let f = length-map before (λ (u : State). u.work) in omega arith) in
       let lay : IsShortOf (then_told (told (piece ∷ []) Open) (lies_to (coming a j) (with_realm realm a) j)) (lies_in a j) =
       subst (λ (t : Told Value). IsShortOf (then_told (in_bytes t) (lies_to (coming a j) (with_realm realm a) j)) (lies_in a j)) (heard-stage i before after w (Bytes piece) at)
-      (heard-lies plan xs a realm (Host id (Transform i (Bytes piece))) event goes (coming a j) j (omega arith)) in
+      (heard-lies shape past a realm (Host id (Transform i (Bytes piece))) event goes (coming a j) j (omega arith)) in
       let first = before_front (then_told (told (piece ∷ []) Open) (lies_to (coming a j) (with_realm realm a) j)) (lies_in a j) (before_of_short _ _ lay) in
       All-head P piece ((lies_to (coming a j) (with_realm realm a) j).items ++ first.0) (subst (All P) first.1 all)
 
-  may-answer-it : (call : HostCall) → AfterEvent plan xs a realm (Host id call) → MayAnswer (with_realm realm a) call
+  may-answer-it : (call : HostCall) → AfterEvent shape past a realm (Host id call) → MayAnswer (with_realm realm a) call
   may-answer-it call event = record {
     written = λ piece is opened near none.
-        let n = count_of plan in
+        let n = count_in shape in
         let w : HostCall = Write a.sink (Bytes piece) in
-        let zero_is : n ≡ 0 = sym (count-works plan xs a realm since goes)
+        let zero_is : n ≡ 0 = sym (count-works shape past a realm since goes)
         ∙ (let f : length (works_in a) ≡ length a.stages.items = length-map a.stages.items (λ (u : State). u.work) in let g : length a.stages.items ≡ 0 = ap length none in omega arith) in
         let heard : heard_at FromBytes ToSink n 0 (Host id w) ≡ told (Bytes piece ∷ []) Open =
         subst (λ (s : StreamId). heard_at FromBytes ToSink n 0 (Host id (Write s (Bytes piece))) ≡ only_at n (told (Bytes piece ∷ []) Open) 0) (sym since.led.is_of.sink) ((each_event_is_heard_at_one_link FromBytes ToSink n 0 (omega arith)).write id (Bytes piece))
         ∙ (ap (λ (k : ℕ). only_at k (told (Bytes piece ∷ []) Open) 0) zero_is ∙ at-there 0 (told (Bytes piece ∷ []) Open)) in
-        one-counted w piece (subst (λ (c : HostCall). AfterEvent plan xs a realm (Host id c)) is event) heard (rw (none, opened, near) refl);
+        one-counted w piece (subst (λ (c : HostCall). AfterEvent shape past a realm (Host id c)) is event) heard (rw (none, opened, near) refl);
     had = λ i piece is after w at live.
-        one-counted (Transform i (Bytes piece)) piece (subst (λ (c : HostCall). AfterEvent plan xs a realm (Host id c)) is event) (heard-stage i [] after w (Bytes piece) at)
+        one-counted (Transform i (Bytes piece)) piece (subst (λ (c : HostCall). AfterEvent shape past a realm (Host id c)) is event) (heard-stage i [] after w (Bytes piece) at)
         (subst (λ (ws : List State). may_have ws a.output a.abort ≡ true) (sym at.whole) (live-true w live));
     pushed = λ i piece is before after w at live.
         let some = among (λ u. u.pushes < a.realm.slots.age) before after w (subst (All (λ u. u.pushes < a.realm.slots.age)) at.whole (since.pushes goes)) in
         let old = since.led.age in
         record {
           count = omega arith;
-          length_fits = (kind w.stage).fits (length piece) (stage-short i piece before after w at live (subst (λ (c : HostCall). AfterEvent plan xs a realm (Host id c)) is event));
+          length_fits = (kind w.stage).fits (length piece) (stage-short i piece before after w at live (subst (λ (c : HostCall). AfterEvent shape past a realm (Host id c)) is event));
         };
   }
 
 -- what it asks can be done
-pub may-hear : (plan : Plan) (xs : List Entry) (a : Node) (realm : SeenRealm) (e : Event) → Since plan xs a → a.stopped ≡ None → first_event a.realm.slots.promises.events ≡ Some e
+pub may-hear : (shape : Shape) (past : List Entry) (a : Node) (realm : SeenRealm) (e : Event) → Since shape past a → a.stopped ≡ None → first_event a.realm.slots.promises.events ≡ Some e
     → realm.slots ≡ after_event a.realm.slots → MayHear (with_realm realm a) e
-may-hear plan xs a realm e since goes first slots id call is =
-    may-answer-it plan xs a realm since goes id call (subst (λ (x : Event). AfterEvent plan xs a realm x) is (since-hears plan xs a realm e since.led goes first slots))
+may-hear shape past a realm e since goes first slots id call is =
+    may-answer-it shape past a realm since goes id call (subst (λ (x : Event). AfterEvent shape past a realm x) is (since-hears shape past a realm e since.led goes first slots))
 
 -- What is asked is done
 
@@ -156,86 +153,86 @@ module _ (n k : ℕ) (id : HostId) (i : StreamId) (other : is_same (dest_of n) i
   no-close : heard_at FromBytes ToSink n k (Host id (Close i)) ≡ silence
   no-close = rw ear-other refl
 
-module _ (rf : ℕ) (feed : Option Feed) (p q : List ℕ → Type 0) (plan : Plan) (xs : List Entry) (a : Node) (realm : SeenRealm) (b : Node) (old new : Shown) (since : Since plan xs a)
+module _ (rf : ℕ) (feed : Option Feed) (p q : List ℕ → Type 0) (shape : Shape) (past : List Entry) (a : Node) (realm : SeenRealm) (b : Node) (old new : Shown) (since : Since shape past a)
     (goes : a.stopped ≡ None) where
   abbrev was : Node
   was = with_realm realm a
 
   abbrev Done : Type 0
-  Done = Handled plan a b (shows rf feed old) (shows rf feed new) p q
+  Done = Handled shape a b (shows rf feed old) (shows rf feed new) p q
 
-  one-was : (e : Event) → AfterEvent plan xs a realm e → heard_at FromBytes ToSink (count_of plan) 0 e ≡ silence → HasOne was
-  one-was e event quiet h = one-quiet a.ahead (heard_at FromBytes ToSink (count_of plan) 0 e) (behind_at 0 realm.slots) (behind_at 0 a.realm.slots) quiet (event.short 0 (omega arith)) (since.one h)
+  one-was : (e : Event) → AfterEvent shape past a realm e → heard_at FromBytes ToSink (count_in shape) 0 e ≡ silence → HasOne was
+  one-was e event quiet h = one-quiet a.ahead (heard_at FromBytes ToSink (count_in shape) 0 e) (behind_at 0 realm.slots) (behind_at 0 a.realm.slots) quiet (event.short 0 (omega arith)) (since.one h)
 
   -- of the node it tells nothing
-  told-only : (id : HostId) (e : Event) → AfterEvent plan xs a realm e → ((k : ℕ) → k ≤ count_of plan → heard_at FromBytes ToSink (count_of plan) k e ≡ silence) → b ≡ was → Untouched old new p q → Done
+  told-only : (id : HostId) (e : Event) → AfterEvent shape past a realm e → ((k : ℕ) → k ≤ count_in shape → heard_at FromBytes ToSink (count_in shape) k e ≡ silence) → b ≡ was → Untouched old new p q → Done
   told-only id e event quiet same untouched =
-      noted rf feed p q plan xs a realm id b old new since goes e event (λ k less. ap in_bytes (quiet k less)) (one-was e event (quiet 0 (omega arith))) same untouched
+      noted rf feed p q shape past a realm id b old new since goes e event (λ k less. ap in_bytes (quiet k less)) (one-was e event (quiet 0 (omega arith))) same untouched
 
-  module _ (id : HostId) (call : HostCall) (event : AfterEvent plan xs a realm (Host id call)) where
-    at-once : ((k : ℕ) → k ≤ count_of plan → heard_at FromBytes ToSink (count_of plan) k (Host id call) ≡ silence) → (call ≡ Close a.sink → ⊥) → ((s : StreamId) → call ≡ Flush s → ⊥) → Settles id was b old new p q → Done
+  module _ (id : HostId) (call : HostCall) (event : AfterEvent shape past a realm (Host id call)) where
+    at-once : ((k : ℕ) → k ≤ count_in shape → heard_at FromBytes ToSink (count_in shape) k (Host id call) ≡ silence) → (call ≡ Close a.sink → ⊥) → ((s : StreamId) → call ≡ Flush s → ⊥) → Settles id was b old new p q → Done
     at-once quiet other flush h =
-        settled rf feed p q plan xs a realm id b old new since goes (Host id call) event (λ k less. ap in_bytes (quiet k less)) (one-was (Host id call) event (quiet 0 (omega arith))) call refl other flush h
+        settled rf feed p q shape past a realm id b old new since goes (Host id call) event (λ k less. ap in_bytes (quiet k less)) (one-was (Host id call) event (quiet 0 (omega arith))) call refl other flush h
 
-    pull-waits : (i : StreamId) → call ≡ Pull i → ((k : ℕ) → k ≤ count_of plan → heard_at FromBytes ToSink (count_of plan) k (Host id call) ≡ silence) → b ≡ record was { asked = Some id } → Untouched old new p q → Done
+    pull-waits : (i : StreamId) → call ≡ Pull i → ((k : ℕ) → k ≤ count_in shape → heard_at FromBytes ToSink (count_in shape) k (Host id call) ≡ silence) → b ≡ record was { asked = Some id } → Untouched old new p q → Done
     pull-waits i is quiet same untouched =
-        pulled rf feed p q plan xs a realm id b old new since goes (Host id call) event (λ k less. ap in_bytes (quiet k less)) (one-was (Host id call) event (quiet 0 (omega arith))) i
+        pulled rf feed p q shape past a realm id b old new since goes (Host id call) event (λ k less. ap in_bytes (quiet k less)) (one-was (Host id call) event (quiet 0 (omega arith))) i
         (ap (λ (c : HostCall). let e : Event = Host id c in e) is) same untouched
 
   -- of a value that isn't bytes
   module _ (id : HostId) (i : StreamId) (v : Plain) where
-    plain-written : AfterEvent plan xs a realm (Host id (Write i (PlainValue v))) → Settles id was b old new p q → Done
+    plain-written : AfterEvent shape past a realm (Host id (Write i (PlainValue v))) → Settles id was b old new p q → Done
     plain-written event h =
-        settled rf feed p q plan xs a realm id b old new since goes (Host id (Write i (PlainValue v))) event (λ k less. plain-bytes v (is_sink (ear_of FromBytes ToSink (count_of plan) k) i))
-        (λ o. plain-one a.ahead v (is_sink (ear_of FromBytes ToSink (count_of plan) 0) i) (behind_at 0 realm.slots) (behind_at 0 a.realm.slots) (event.short 0 (omega arith)) (since.one o))
+        settled rf feed p q shape past a realm id b old new since goes (Host id (Write i (PlainValue v))) event (λ k less. plain-bytes v (is_sink (ear_of FromBytes ToSink (count_in shape) k) i))
+        (λ o. plain-one a.ahead v (is_sink (ear_of FromBytes ToSink (count_in shape) 0) i) (behind_at 0 realm.slots) (behind_at 0 a.realm.slots) (event.short 0 (omega arith)) (since.one o))
         (Write i (PlainValue v)) refl (λ f. cc) (λ s f. cc) h
 
-    plain-transformed : AfterEvent plan xs a realm (Host id (Transform i (PlainValue v))) → Settles id was b old new p q → Done
+    plain-transformed : AfterEvent shape past a realm (Host id (Transform i (PlainValue v))) → Settles id was b old new p q → Done
     plain-transformed event h =
-        settled rf feed p q plan xs a realm id b old new since goes (Host id (Transform i (PlainValue v))) event (λ k less. plain-bytes v (is_half (ear_of FromBytes ToSink (count_of plan) k) i))
-        (λ o. plain-one a.ahead v (is_half (ear_of FromBytes ToSink (count_of plan) 0) i) (behind_at 0 realm.slots) (behind_at 0 a.realm.slots) (event.short 0 (omega arith)) (since.one o))
+        settled rf feed p q shape past a realm id b old new since goes (Host id (Transform i (PlainValue v))) event (λ k less. plain-bytes v (is_half (ear_of FromBytes ToSink (count_in shape) k) i))
+        (λ o. plain-one a.ahead v (is_half (ear_of FromBytes ToSink (count_in shape) 0) i) (behind_at 0 realm.slots) (behind_at 0 a.realm.slots) (event.short 0 (omega arith)) (since.one o))
         (Transform i (PlainValue v)) refl (λ f. cc) (λ s f. cc) h
 
-  other-sink : (i : StreamId) → is_same a.sink i ≡ false → is_same (dest_of (count_of plan)) i ≡ false
+  other-sink : (i : StreamId) → is_same a.sink i ≡ false → is_same (dest_of (count_in shape)) i ≡ false
   other-sink i e = subst (λ (s : StreamId). is_same s i ≡ false) since.led.is_of.sink e
 
-  written-by : (id : HostId) (i : StreamId) (v : Value) (t : Bool) → is_same a.sink i ≡ t → AfterEvent plan xs a realm (Host id (Write i v)) → writes_by id v was b old new p q t → Done
+  written-by : (id : HostId) (i : StreamId) (v : Value) (t : Bool) → is_same a.sink i ≡ t → AfterEvent shape past a realm (Host id (Write i v)) → writes_by id v was b old new p q t → Done
   written-by id i (Bytes piece) true e event w =
-      wrote rf feed p q plan xs a realm id b old new since goes piece (subst (λ (s : StreamId). AfterEvent plan xs a realm (Host id (Write s (Bytes piece)))) (the-sink a.sink i e) event) w
+      wrote rf feed p q shape past a realm id b old new since goes piece (subst (λ (s : StreamId). AfterEvent shape past a realm (Host id (Write s (Bytes piece)))) (the-sink a.sink i e) event) w
   written-by id i (Bytes piece) false e event w =
-      at-once id (Write i (Bytes piece)) event (λ k less. no-write (count_of plan) k id i (other-sink i e) (Bytes piece)) (λ f. cc) (λ s f. cc) w
+      at-once id (Write i (Bytes piece)) event (λ k less. no-write (count_in shape) k id i (other-sink i e) (Bytes piece)) (λ f. cc) (λ s f. cc) w
   written-by id i (PlainValue v) true e event w = plain-written id i v event w
   written-by id i (PlainValue v) false e event w = plain-written id i v event w
 
-  closed-by : (id : HostId) (i : StreamId) (t : Bool) → is_same a.sink i ≡ t → AfterEvent plan xs a realm (Host id (Close i)) → finishes_by id was b old new p q t → Done
+  closed-by : (id : HostId) (i : StreamId) (t : Bool) → is_same a.sink i ≡ t → AfterEvent shape past a realm (Host id (Close i)) → finishes_by id was b old new p q t → Done
   closed-by id i true e event f =
-      closed rf feed p q plan xs a realm id b old new since goes (subst (λ (s : StreamId). AfterEvent plan xs a realm (Host id (Close s))) (the-sink a.sink i e) event) f
+      closed rf feed p q shape past a realm id b old new since goes (subst (λ (s : StreamId). AfterEvent shape past a realm (Host id (Close s))) (the-sink a.sink i e) event) f
   closed-by id i false e event f =
-      at-once id (Close i) event (λ k less. no-close (count_of plan) k id i (other-sink i e)) (not-the-sink a.sink i e) (λ s g. cc) f
+      at-once id (Close i) event (λ k less. no-close (count_in shape) k id i (other-sink i e)) (not-the-sink a.sink i e) (λ s g. cc) f
 
-  answered : (id : HostId) (call : HostCall) → AfterEvent plan xs a realm (Host id call) → Answers id call was b old new p q → Done
+  answered : (id : HostId) (call : HostCall) → AfterEvent shape past a realm (Host id call) → Answers id call was b old new p q → Done
   answered id (Start i) event h = at-once id (Start i) event (λ k less. refl) (λ f. cc) (λ s f. cc) h
   answered id (Pull i) event h = pull-waits id (Pull i) event i refl (λ k less. refl) h.0 h.1
   answered id (Cancel i r) event h = at-once id (Cancel i r) event (λ k less. refl) (λ f. cc) (λ s f. cc) h
   answered id (Write i v) event h = written-by id i v (is_same a.sink i) refl event h
   answered id (Close i) event h = closed-by id i (is_same a.sink i) refl event h
   answered id (Abort i r) event h = at-once id (Abort i r) event (λ k less. refl) (λ f. cc) (λ s f. cc) h
-  answered id (Transform i (Bytes piece)) event h = rw h.1.shown (transforms plan xs a realm id i b (shows rf feed old) p q h.1.gained since goes piece event h.0)
+  answered id (Transform i (Bytes piece)) event h = rw h.1.shown (transforms shape past a realm id i b (shows rf feed old) p q h.1.gained since goes piece event h.0)
   answered id (Transform i (PlainValue v)) event h = plain-transformed id i v event h
-  answered id (Flush i) event h = rw h.1.shown (flushes plan xs a realm id i b (shows rf feed old) p q h.1.gained since goes event h.0)
+  answered id (Flush i) event h = rw h.1.shown (flushes shape past a realm id i b (shows rf feed old) p q h.1.gained since goes event h.0)
   answered id (CancelTransform i r) event h = at-once id (CancelTransform i r) event (λ k less. refl) (λ f. cc) (λ s f. cc) h
 
-  heard-of : (e : Event) → AfterEvent plan xs a realm e → Hears e was b old new p q → Done
+  heard-of : (e : Event) → AfterEvent shape past a realm e → Hears e was b old new p q → Done
   heard-of (Host id call) event h = answered id call event h
   heard-of (Settled d) event h = told-only (record { 0 = 0 }) (Settled d) event (λ k less. refl) h.0 h.1
   heard-of (Signal i r) event h = told-only (record { 0 = 0 }) (Signal i r) event (λ k less. refl) h.0 h.1
-  heard-of (Post c m) event h = told-only (record { 0 = 0 }) (Post c m) event (λ k less. (each_event_is_heard_at_one_link FromBytes ToSink (count_of plan) k less).post_elsewhere c m refl) h.0 h.1
+  heard-of (Post c m) event h = told-only (record { 0 = 0 }) (Post c m) event (λ k less. (each_event_is_heard_at_one_link FromBytes ToSink (count_in shape) k less).post_elsewhere c m refl) h.0 h.1
 
-pub hears : (rf : ℕ) (feed : Option Feed) (p q : List ℕ → Type 0) (plan : Plan) (xs : List Entry) (a : Node) (realm : SeenRealm) (e : Event) (b : Node) (old new : Shown)
-    → Since plan xs a → a.stopped ≡ None → first_event a.realm.slots.promises.events ≡ Some e → realm.slots ≡ after_event a.realm.slots
-    → Hears e (with_realm realm a) b old new p q → Handled plan a b (shows rf feed old) (shows rf feed new) p q
-hears rf feed p q plan xs a realm e b old new since goes first slots h =
-    heard-of rf feed p q plan xs a realm b old new since goes e (since-hears plan xs a realm e since.led goes first slots) h
+pub hears : (rf : ℕ) (feed : Option Feed) (p q : List ℕ → Type 0) (shape : Shape) (past : List Entry) (a : Node) (realm : SeenRealm) (e : Event) (b : Node) (old new : Shown)
+    → Since shape past a → a.stopped ≡ None → first_event a.realm.slots.promises.events ≡ Some e → realm.slots ≡ after_event a.realm.slots
+    → Hears e (with_realm realm a) b old new p q → Handled shape a b (shows rf feed old) (shows rf feed new) p q
+hears rf feed p q shape past a realm e b old new since goes first slots h =
+    heard-of rf feed p q shape past a realm b old new since goes e (since-hears shape past a realm e since.led goes first slots) h
 
 -- a node whose host has heard of everything
 
@@ -243,15 +240,15 @@ stopped-same : (stopped : Option Why) (x y t : Told (List ℕ)) → IsShortOf x 
 stopped-same None x y t h = short_right x y t h
 stopped-same (Some why) x y t h = ([], refl)
 
-pub hears-none : (plan : Plan) (xs : List Entry) (a : Node) (realm : SeenRealm) (m : Moment) (p : List ℕ → Type 0) → Since plan xs a → a.stopped ≡ None
-    → first_event a.realm.slots.promises.events ≡ None → realm.slots ≡ after_event a.realm.slots → Handled plan a (with_realm realm a) m m p p
-hears-none plan xs a realm m p since goes first slots =
-    let after = since-hears-none plan xs a realm since.led first slots in
+pub hears-none : (shape : Shape) (past : List Entry) (a : Node) (realm : SeenRealm) (m : Moment) (p : List ℕ → Type 0) → Since shape past a → a.stopped ≡ None
+    → first_event a.realm.slots.promises.events ≡ None → realm.slots ≡ after_event a.realm.slots → Handled shape a (with_realm realm a) m m p p
+hears-none shape past a realm m p since goes first slots =
+    let after = since-hears-none shape past a realm since.led first slots in
     record {
-      xs = xs ++ Heard ∷ [];
+      past = past ++ Heard ∷ [];
       led = after.led;
       pushes = λ h. subst (λ (n : ℕ). ArePushed n a.stages.items) (sym after.age) (since.pushes h);
       one = λ h. one-short a.ahead (behind_at 0 realm.slots) (behind_at 0 a.realm.slots) (after.short 0 (omega arith)) (since.one h);
-      went = went-rests plan a (with_realm realm a) m p p (Gains-nothing p) (going-stays a (with_realm realm a) goes) since.led.is_of.stages (record { realm = realm; stopped = a.stopped; is = refl })
+      went = went-rests shape a (with_realm realm a) m p p (Gains-nothing p) (going-stays a (with_realm realm a) goes) since.led.is_of.stages (record { realm = realm; stopped = a.stopped; is = refl })
           (λ k less. stopped-same a.stopped (in_bytes (behind_at k realm.slots)) (in_bytes (behind_at k a.realm.slots)) (coming a k) (in_bytes-short _ _ (after.short k less)));
     }

@@ -23,6 +23,7 @@ pub mod Opening
 pub mod Placing
 pub mod Pushing
 pub mod Putting
+pub mod Ran
 pub mod Reading
 pub mod Settled
 pub mod Settling

@@ -23,9 +23,12 @@ use Rattle.ws_chain_laws.specs.Opening as chain
 use Rattle.ws_chain_laws.proofs.Begins.{each_chain_begins, run-append, chain-ready, opened-is}
 use Rattle.ws_chain_laws.proofs.Outcomes.{each_chain_ends}
 use Rattle.ws_runner.specs.declared.node.Abort.{Abort}
-use Rattle.ws_runner.specs.Opening.{AreAnswered, AreAnsweredOf, CanPipe, IsAccepted, IsAnswered, IsPromise, abort_of, all_begun, count_of, is_aborted, led_by}
-use Rattle.ws_runner.proofs.Ending.{few-streams}
+use Rattle.ws_runner.specs.Opening.{AreAnswered, AreAnsweredOf, CanPipe, IsAccepted, IsAnswered, IsPromise, abort_of, all_begun, count_of, is_aborted, opening_by}
 use Rattle.ws_chain_laws.specs.Chain.{FromBytes, ToSink}
+
+-- an accepted plan has few streams
+pub few-streams : (plan : Plan) → IsAccepted plan → 2 * count_of plan + 2 ≤ most_streams
+few-streams plan h = let few = (accepted plan h).stages in omega arith
 
 -- a signal is answered
 pub signal-answered : (s : Slots) → reply_to MakeSignal s ≡ Signal (record { 0 = length s.signals })
@@ -123,7 +126,7 @@ module _ (plan : Plan) (is_accepted : IsAccepted plan) where
       (subst IsPromise (sym begins.last) tt)))
 
   pub led-is : (signal : Option SignalId) (m : ℕ) (z last : Slots) → signal ≡ signal_of signalled → m ≡ n → z ≡ opened FromBytes ToSink n signalled → last ≡ after_call (piping signal m) z
-      → last ≡ led_by plan []
+      → last ≡ run (opening_by plan) empty
   led-is signal m z last a e f g =
       g
       ∙ (ap (λ (x : Option SignalId). after_call (piping x m) z) a

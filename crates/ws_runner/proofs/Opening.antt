@@ -1,10 +1,13 @@
 -- A new node: its realm has the streams and pipes of a chain, and nothing lies in it.
-use Rattle.std.proofs.Common.{◌≡◌, ◌+◌, ◌*◌, ◌<◌, ◌≤◌, ℕ, zero, suc, ℤ, pos, negsuc, nat_abs, Bool, true, false, ◌&&◌, List, [], ◌∷◌, ◌++◌, length, map, Option, Some, None, refl, sym, ap, ◌∙◌, subst, arith}
-use Rattle.std.specs.Prelude.{is_some, option_map, int_le}
+use Rattle.std.proofs.Common.{◌≡◌, ◌+◌, ◌*◌, ◌<◌, ◌≤◌, ℕ, zero, suc, ℤ, pos, negsuc, nat_abs, Bool, true, false, ◌&&◌, List, [], ◌∷◌, ◌++◌, length, map, Option, Some, None, refl, sym, ap, ◌∙◌, subst, append_assoc, arith}
+use Rattle.std.specs.Prelude.{is_some, option_map, int_le, Contains, All}
 use Rattle.std.specs.List.{list_all}
 use Rattle.std.proofs.lemmas.Bool.{and_parts}
 use Rattle.std.proofs.lemmas.List.Elements.{All-nil, All-cons}
 use Rattle.ws_value.specs.declared.ids.HostId.{HostId}
+use Rattle.ws_value.specs.declared.ids.PromiseId.{PromiseId}
+use Rattle.ws_value.specs.declared.value.Outcome.TheVariants.{Fulfilled, Rejected}
+use Rattle.ws_value.specs.declared.value.Plain.{Plain}
 use Rattle.ws_value.specs.declared.value.Value.{Value}
 use Rattle.ws_flow.specs.declared.plan.Plan.{Plan}
 use Rattle.ws_flow.specs.declared.plan.Stage.{Stage}
@@ -22,16 +25,21 @@ use Rattle.ws_steps.specs.declared.calls.Call.{Call}
 use Rattle.ws_steps.specs.declared.calls.Call.TheVariants.{MakeWritable, Settle}
 use Rattle.ws_steps.specs.declared.calls.StartBy.TheVariants.{Now}
 use Rattle.ws_steps.specs.declared.readable.SizeBy.TheVariants.{Count}
+use Rattle.ws_steps.specs.Promises.{outcome_at, rank_at}
 use Rattle.ws_steps.specs.Run.{Entry, Called, Worked, Heard, run, performed_in}
 use Rattle.ws_steps.specs.Slots.{Slots, empty, most_streams}
 use Rattle.ws_laws.proofs.Ages.{each_age_counts}
 use Rattle.ws_host_laws.specs.HostCalls.{settles_well}
 use Rattle.ws_link_laws.specs.Link.{silence}
-use Rattle.ws_chain_laws.specs.Chain.{FromBytes, ToSink, behind_at}
+use Rattle.ws_reason_laws.specs.Origins.{through, through_of}
+use Rattle.ws_reason_laws.proofs.Brought.{through-append}
+use Rattle.ws_chain_laws.specs.Chain.{FromBytes, ToSink, IsChain, behind_at}
 use Rattle.ws_chain_laws.specs.Opening.{BeginsChain, transforms, streams, signals, signal_of, pipes_from, piping, opening, opened, chained}
-use Rattle.ws_chain_laws.specs.Outcomes.{past_of}
+use Rattle.ws_chain_laws.specs.Outcomes.{past_of, last_promise}
 use Rattle.ws_chain_laws.proofs.Begins.{each_chain_begins}
-use Rattle.ws_chain_laws.proofs.Outcomes.{each_chain_ends}
+use Rattle.ws_chain_laws.proofs.Outcomes.{each_chain_ends, past-fails, past-none}
+use Rattle.ws_chain_laws.proofs.Portless.{past-portless}
+use Rattle.ws_chain_laws.proofs.Teeless.{past-teeless}
 use Rattle.ws_realm.specs.Seen.{oldest}
 use Rattle.ws_realm.specs.declared.realm.Why.{Why}
 use Rattle.ws_runner.specs.declared.node.Abort.{Abort}
@@ -39,9 +47,11 @@ use Rattle.ws_runner.specs.declared.node.Input.{Input}
 use Rattle.ws_runner.specs.declared.node.Input.TheVariants as input
 use Rattle.ws_runner.specs.declared.node.Node.{Node}
 use Rattle.ws_runner.specs.Node.{coming, coming_by, coming_behind, in_bytes, lies_in, lying, lying_by, nothing_yet, parts, works_in}
-use Rattle.ws_runner.specs.Opening.{IsAccepted, abort_of, all_begun, count_of, is_aborted}
-use Rattle.ws_runner.specs.Past.{ArePushed, Counts, Driven, IsCause, IsFed, IsFresh, IsNew, IsOf, Led, OneAtMost}
-use Rattle.ws_runner.proofs.Ending.{few-streams}
+use Rattle.ws_runner.specs.Opening.{IsAccepted, abort_of, all_begun, count_of, is_aborted, opening_by}
+use Rattle.ws_runner.specs.Past.{ArePushed, Counts, Driven, IsCause, IsFed, IsFresh, IsNew, IsOf, IsShaped, Led, OneAtMost}
+use Rattle.ws_runner.specs.Ran.{HasRun, IsPiped, PipeEnds}
+use Rattle.ws_runner.specs.Shape.{shape_of}
+use Rattle.ws_runner.proofs.MakingNodes.{few-streams}
 
 -- the stages at their beginning
 
@@ -172,6 +182,10 @@ young n signalled =
     (each_age_counts empty (past_of FromBytes ToSink n signalled [])) (performed-append (opening FromBytes ToSink n signalled) last) (performed-append (streams FromBytes ToSink n) rest) refl (performed-append (transforms n) sink)
     (performed-append (signals signalled) (pipes_from 0 n)) (transforms-performed n) (signals-performed signalled) (pipes-performed 0 n)
 
+last-none : {A : Type 0} (xs ys : List A) → xs ++ ys ≡ [] → ys ≡ []
+last-none [] ys e = e
+last-none (x ∷ xs) ys e = absurd (cc)
+
 -- a plan's limit
 limit-of : (x : ℤ) → is_within 0 1099511627776 x ≡ true → nat_abs x ≤ 1099511627776
 limit-of (pos n) h = grind arith
@@ -195,6 +209,44 @@ module _ (plan : Plan) (n : Node) (is_accepted : IsAccepted plan) (f : IsFresh p
 
   slots-are : n.realm.slots ≡ chained FromBytes ToSink k signalled
   slots-are = f.slots ∙ (each_chain_ends FromBytes ToSink k signalled [] few).slots
+
+  -- the promise of the last pipe
+  its : last_promise FromBytes ToSink k signalled ≡ n.pipe
+  its = let a = f.answered in let b = begins.last in cc
+
+  -- what comes through a transform stream behind the opening
+  after-quiet : (xs : List Entry) → through (past_of FromBytes ToSink k signalled xs) empty ≡ [] → through xs (chained FromBytes ToSink k signalled) ≡ []
+  after-quiet xs e =
+      let pipe : Entry = Called (piping (signal_of signalled) k) in
+      last-none (through_of (piping (signal_of signalled) k) (opened FromBytes ToSink k signalled)) (through xs (chained FromBytes ToSink k signalled))
+      (last-none (through (opening FromBytes ToSink k signalled) empty) (through (pipe ∷ xs) (opened FromBytes ToSink k signalled))
+      (sym (through-append (opening FromBytes ToSink k signalled) (pipe ∷ xs) empty) ∙ e))
+
+  pipe-ends : (xs : List Entry) → PipeEnds k (past_of FromBytes ToSink k signalled xs) n.pipe
+  pipe-ends xs =
+      let entries : List Entry = past_of FromBytes ToSink k signalled xs in
+      let e = each_chain_ends FromBytes ToSink k signalled xs few in
+      record {
+        its = e.pipes k (omega arith) ∙ its;
+        watched = subst (λ (q : PromiseId). is_some (rank_at (run entries empty).promises q) ≡ true) its (e.watched k (omega arith));
+        rejected = λ r quiet tee port o.
+            subst (λ (rs : List Plain). Contains rs r) (sym (past-fails FromBytes ToSink k signalled xs))
+            (e.rejected r (after-quiet xs quiet) tee port (subst (λ (q : PromiseId). outcome_at (run entries empty).promises q ≡ Some (Rejected r)) (sym its) o));
+        fulfilled = λ v o. e.fulfilled v refl (subst (λ (q : PromiseId). outcome_at (run entries empty).promises q ≡ Some (Fulfilled v)) (sym its) o);
+      }
+
+  piped : IsPiped k (opening_by plan) n.pipe
+  piped xs =
+      subst (λ (es : List Entry). PipeEnds k es n.pipe) (sym (append_assoc (opening FromBytes ToSink k signalled) (Called (piping (signal_of signalled) k) ∷ []) xs)) (pipe-ends xs)
+
+  ran : HasRun (shape_of plan) (opening_by plan) n.realm.slots
+  ran = record {
+    slots = f.slots;
+    wired = subst (IsChain FromBytes ToSink k) (sym slots-are) begins.chain;
+    quiet = past-none FromBytes ToSink k signalled [] few refl;
+    teeless = subst (λ (s : Slots). s.tees ≡ []) (sym f.slots) (past-teeless FromBytes ToSink k signalled [] tt);
+    portless = subst (λ (s : Slots). s.ports ≡ []) (sym f.slots) (past-portless FromBytes ToSink k signalled [] refl tt);
+  }
 
   nothing-behind : (j : ℕ) → j ≤ k → behind_at j n.realm.slots ≡ silence
   nothing-behind j l = ap (behind_at j) slots-are ∙ begins.none j l
@@ -249,13 +301,21 @@ module _ (plan : Plan) (n : Node) (is_accepted : IsAccepted plan) (f : IsFresh p
       let is = f.input in
       record { limited = omega arith; bound = omega arith; within = λ e. omega arith; beyond = λ e. absurd (cc); piece = omega arith; failed = λ e. absurd (cc) }
 
-  led : Led plan [] n
+  is-shaped : IsShaped (shape_of plan) n
+  is-shaped = record {
+    fit = let a = accepted plan is_accepted in record { few = a.stages; range = a.range; hex = a.hex };
+    stages = is-of.stages;
+    sink = is-of.sink;
+    most = is-of.most;
+    signal = is-of.signal;
+  }
+
+  led : Led (shape_of plan) (opening_by plan) n
   led = record {
-    is_of = is-of;
-    slots = f.slots;
-    calls = tt;
-    answered = f.answered;
-    failed = All-nil (IsCause n);
+    is_of = is-shaped;
+    ran = ran;
+    piped = piped;
+    failed = subst (All (IsCause n)) (sym (past-fails FromBytes ToSink k signalled [])) (All-nil (IsCause n));
     closes = λ before after id e c. absurd (none-settled before after id (subst (λ (xs : List Entry). are_open xs ≡ true) e (past-open k signalled)));
     flushes = λ before after id i e c. absurd (none-settled before after id (subst (λ (xs : List Entry). are_open xs ≡ true) e (past-open k signalled)));
     asked = rw f.asked tt;
@@ -265,7 +325,7 @@ module _ (plan : Plan) (n : Node) (is_accepted : IsAccepted plan) (f : IsFresh p
     spent = λ e. let o = f.stopped in absurd (cc);
   }
 
-  fed : IsFed plan n
+  fed : IsFed ss n
   fed = record {
     came = nothing_told;
     went = nothing_told;
@@ -278,8 +338,8 @@ module _ (plan : Plan) (n : Node) (is_accepted : IsAccepted plan) (f : IsFresh p
 
   driven : Driven n
   driven = record {
-    plan = plan;
-    xs = [];
+    shape = shape_of plan;
+    past = opening_by plan;
     since = record {
       led = led;
       pushes = λ e. subst (ArePushed n.realm.slots.age) (sym f.stages) (never-pushed n.realm.slots.age ss its-age.some);

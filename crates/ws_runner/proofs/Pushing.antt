@@ -7,7 +7,7 @@ use Rattle.ws_value.specs.declared.value.Value.{Value}
 use Rattle.ws_value.specs.declared.value.Value.TheVariants.{Bytes}
 use Rattle.ws_flow.specs.declared.plan.Ending.{Ending}
 use Rattle.ws_flow.specs.declared.plan.Ending.TheVariants.{Fine, Bad}
-use Rattle.ws_flow.specs.declared.plan.Plan.{Plan}
+use Rattle.ws_runner.specs.Shape.{Shape, count_in}
 use Rattle.ws_flow.specs.Machines.{Kept}
 use Rattle.ws_flow.specs.Parts.{AtWork, Over, Goes}
 use Rattle.ws_flow.specs.Stages.{machine, machines}
@@ -31,7 +31,6 @@ use Rattle.ws_realm.specs.declared.realm.Why.TheVariants as why
 use Rattle.ws_runner.specs.declared.node.Node.{Node}
 use Rattle.ws_runner.specs.Moves.{Flushes, FlushedOne, NoRoomToFlush, NotFlushed, NothingToFlush, IsAt, NoneThere, Transforms, PushedOne, NoRoomToPush, NotPushed, NothingToPush, had_behind, stopped_by, with_realm}
 use Rattle.ws_runner.specs.Node.{coming, in_bytes, lying, nothing_yet, parts, stages_in}
-use Rattle.ws_runner.specs.Opening.{count_of}
 use Rattle.ws_runner.specs.Went.{Went}
 use Rattle.ws_runner.specs.Past.{OneAtMost, ArePushed, HasOne, Led, Since, may_have}
 use Rattle.ws_runner.proofs.Changes.{led-ahead, led-stages, led-stopped}
@@ -77,8 +76,8 @@ had-kept (x ∷ before) count n u us e = refl
 flush-same : (i s : StreamId) → Flush i ≡ Flush s → i ≡ s
 flush-same i s e = grind arith
 
-module _ (plan : Plan) (xs : List Entry) (a : Node) (realm : SeenRealm) (id : HostId) (i : StreamId) (b : Node) (m : Moment) (p q : List ℕ → Type 0) (gained : Gains p q [])
-    (since : Since plan xs a) (goes : a.stopped ≡ None) where
+module _ (shape : Shape) (past : List Entry) (a : Node) (realm : SeenRealm) (id : HostId) (i : StreamId) (b : Node) (m : Moment) (p q : List ℕ → Type 0) (gained : Gains p q [])
+    (since : Since shape past a) (goes : a.stopped ≡ None) where
   abbrev was : Node
   was = with_realm realm a
 
@@ -106,10 +105,10 @@ module _ (plan : Plan) (xs : List Entry) (a : Node) (realm : SeenRealm) (id : Ho
       (λ k o. less k (one-quiet k h (behind_at 0 realm.slots) (behind_at 0 a.realm.slots) (heard ∙ at-elsewhere (suc (length us)) 0 t (λ e. omega arith)) short o))
 
   -- nothing is answered
-  rested : (e : Event) → AfterEvent plan xs a realm e → HasOne was → Goes (machines (stages_in a)) nothing_yet (parts a) (lying a) (parts was) (lying was) → Handled plan a was m m p q
+  rested : (e : Event) → AfterEvent shape past a realm e → HasOne was → Goes (machines (stages_in a)) nothing_yet (parts a) (lying a) (parts was) (lying was) → Handled shape a was m m p q
   rested e event one on =
       record {
-        xs = xs ++ Heard ∷ [];
+        past = past ++ Heard ∷ [];
         led = event.led;
         pushes = λ h. subst (λ (n : ℕ). ArePushed n a.stages.items) (sym event.age) (since.pushes goes);
         one = one;
@@ -117,41 +116,41 @@ module _ (plan : Plan) (xs : List Entry) (a : Node) (realm : SeenRealm) (id : Ho
       }
 
   -- an event at a stage
-  module _ (before after : List State) (w : State) (at : IsAt i a.stages.items before w after) (call : HostCall) (t : Told Value) (event : AfterEvent plan xs a realm (Host id call))
-      (heard : (k : ℕ) → k ≤ count_of plan → heard_at FromBytes ToSink (count_of plan) k (Host id call) ≡ only_at (length before) t k) where
-    count : count_of plan ≡ length before + suc (length after)
-    count = count-is plan a before after w goes since.led.is_of.stages at.whole
+  module _ (before after : List State) (w : State) (at : IsAt i a.stages.items before w after) (call : HostCall) (t : Told Value) (event : AfterEvent shape past a realm (Host id call))
+      (heard : (k : ℕ) → k ≤ count_in shape → heard_at FromBytes ToSink (count_in shape) k (Host id call) ≡ only_at (length before) t k) where
+    count : count_in shape ≡ length before + suc (length after)
+    count = count-is shape a before after w goes since.led.is_of.stages at.whole
 
-    next_is : suc (length before) ≤ count_of plan
+    next_is : suc (length before) ≤ count_in shape
     next_is = let e = count in omega arith
 
-    here_is : length before ≤ count_of plan
+    here_is : length before ≤ count_in shape
     here_is = let e = count in omega arith
 
     heard-here : (x : Told (List ℕ)) → IsShortOf (then_told (in_bytes t) (lies_to x was (length before))) (lies_to x a (length before))
     heard-here x =
         subst (λ (v : Told Value). IsShortOf (then_told (in_bytes v) (lies_to x was (length before))) (lies_to x a (length before)))
-        (heard (length before) here_is ∙ at-there (length before) t) (heard-lies plan xs a realm (Host id call) event goes x (length before) here_is)
+        (heard (length before) here_is ∙ at-there (length before) t) (heard-lies shape past a realm (Host id call) event goes x (length before) here_is)
 
-    unheard-there : (x : Told (List ℕ)) (k : ℕ) → k ≤ count_of plan → k ≢ length before → IsShortOf (lies_to x was k) (lies_to x a k)
+    unheard-there : (x : Told (List ℕ)) (k : ℕ) → k ≤ count_in shape → k ≢ length before → IsShortOf (lies_to x was k) (lies_to x a k)
     unheard-there x k less other =
-        unheard-lies plan xs a realm (Host id call) event goes x k less (ap in_bytes (heard k less ∙ at-elsewhere (length before) k t other))
+        unheard-lies shape past a realm (Host id call) event goes x k less (ap in_bytes (heard k less ∙ at-elsewhere (length before) k t other))
 
-    first_is : 0 ≤ count_of plan
+    first_is : 0 ≤ count_in shape
     first_is = omega arith
 
     -- with the first link, where the stage isn't the first
     one-elsewhere : 0 ≢ length before → (n : ℕ) → OneAtMost n (behind_at 0 a.realm.slots).items → OneAtMost n (behind_at 0 realm.slots).items
     one-elsewhere other n o =
-        one-quiet n (heard_at FromBytes ToSink (count_of plan) 0 (Host id call)) (behind_at 0 realm.slots) (behind_at 0 a.realm.slots) (heard 0 first_is ∙ at-elsewhere (length before) 0 t other)
+        one-quiet n (heard_at FromBytes ToSink (count_in shape) 0 (Host id call)) (behind_at 0 realm.slots) (behind_at 0 a.realm.slots) (heard 0 first_is ∙ at-elsewhere (length before) 0 t other)
         (event.short 0 first_is) o
 
     -- the stage is over
-    over-on : (IsLive w.work → ⊥) → Handled plan a was m m p q
+    over-on : (IsLive w.work → ⊥) → Handled shape a was m m p q
     over-on not_live =
         rested (Host id call) event
-        (one-ended before after w w t (heard_at FromBytes ToSink (count_of plan) 0 (Host id call)) was at.whole at.whole not_live (λ u us e. refl) (heard 0 first_is) (event.short 0 first_is) (λ n o. o))
-        (over-goes plan a before after w goes since.led.is_of.stages at.whole was w refl at.whole not_live refl (λ k less other. unheard-there (coming was k) k less other))
+        (one-ended before after w w t (heard_at FromBytes ToSink (count_in shape) 0 (Host id call)) was at.whole at.whole not_live (λ u us e. refl) (heard 0 first_is) (event.short 0 first_is) (λ n o. o))
+        (over-goes shape a before after w goes since.led.is_of.stages at.whole was w refl at.whole not_live refl (λ k less other. unheard-there (coming was k) k less other))
 
     -- the stage was asked
     module _ (v : State) (c : Node) (k : ℕ) (is : c ≡ record was { ahead = k; stages = c.stages }) (items : c.stages.items ≡ before ++ v ∷ after) (stage : v.stage ≡ w.stage) where
@@ -190,24 +189,24 @@ module _ (plan : Plan) (xs : List Entry) (a : Node) (realm : SeenRealm) (id : Ho
         went-on on = went-quietly a b m p q gained (going-stays a b goes) same-counts on
 
       -- the realm stopped
-      stopped-on : Led plan (xs ++ Heard ∷ []) c → b ≡ stopped_by why.NoMemory c → v.work ≡ Over Fine → IsLive w.work → ((u : State) (us : List State) → before ≡ u ∷ us → c.ahead ≡ a.ahead)
-          → Handled plan a b m m p q
+      stopped-on : Led shape (past ++ Heard ∷ []) c → b ≡ stopped_by why.NoMemory c → v.work ≡ Over Fine → IsLive w.work → ((u : State) (us : List State) → before ≡ u ∷ us → c.ahead ≡ a.ahead)
+          → Handled shape a b m m p q
       stopped-on led ends over live ahead =
           let only : OnlyRealm c b = record { realm = c.realm; stopped = Some why.NoMemory; is = ends } in
           let stopped : b.stopped ≡ Some why.NoMemory = ap (λ (n : Node). n.stopped) ends in
           record {
-            xs = xs ++ Heard ∷ [];
-            led = subst (Led plan (xs ++ Heard ∷ [])) (sym ends) (led-stopped plan (xs ++ Heard ∷ []) c why.NoMemory (λ e. absurd (cc)) led);
+            past = past ++ Heard ∷ [];
+            led = subst (Led shape (past ++ Heard ∷ [])) (sym ends) (led-stopped shape (past ++ Heard ∷ []) c why.NoMemory (λ e. absurd (cc)) led);
             pushes = λ e. absurd (let f : Some why.NoMemory ≡ None = sym stopped ∙ e in cc);
-            one = one-ended before after w v t (heard_at FromBytes ToSink (count_of plan) 0 (Host id call)) b at.whole (b-items only) (λ l. subst IsLive over l)
+            one = one-ended before after w v t (heard_at FromBytes ToSink (count_in shape) 0 (Host id call)) b at.whole (b-items only) (λ l. subst IsLive over l)
                 (λ u us e. b-ahead only ∙ ahead u us e) (heard 0 first_is) (event.short 0 first_is)
                 (λ n o. subst (λ (z : Node). OneAtMost n (behind_at 0 z.realm.slots).items) (sym ends) (subst (λ (z : Node). OneAtMost n (behind_at 0 z.realm.slots).items) (sym is) o));
-            went = went-on only (stopped-goes plan a before after w goes since.led.is_of.stages at.whole b v (b-input only) (b-items only) why.NoMemory live over stopped);
+            went = went-on only (stopped-goes shape a before after w goes since.led.is_of.stages at.whole b v (b-input only) (b-items only) why.NoMemory live over stopped);
           }
 
       -- and what came out was put out
-      module _ (chunks : List (List ℕ)) (all : AfterAll plan (xs ++ Heard ∷ []) (length before) chunks c b) where
-        stepped : Stepped plan a before after w goes since.led.is_of.stages at.whole b v (b-input all.only) (b-items all.only) (in_bytes t) chunks
+      module _ (chunks : List (List ℕ)) (all : AfterAll shape (past ++ Heard ∷ []) (length before) chunks c b) where
+        stepped : Stepped shape a before after w goes since.led.is_of.stages at.whole b v (b-input all.only) (b-items all.only) (in_bytes t) chunks
         stepped = record {
           there = λ x.
               short_trans _ _ _
@@ -231,108 +230,108 @@ module _ (plan : Plan) (xs : List Entry) (a : Node) (realm : SeenRealm) (id : Ho
         one-from : (n : ℕ) → OneAtMost n (behind_at 0 realm.slots).items → OneAtMost n (behind_at 0 b.realm.slots).items
         one-from n o = all.one n (subst (λ (z : Node). OneAtMost n (behind_at 0 z.realm.slots).items) (sym is) o)
 
-        pub on : v.pushes ≤ w.pushes + 1 → HasOne b → Goes (machines (stages_in a)) nothing_yet (parts a) (lying a) (parts b) (lying b) → Handled plan a b m m p q
-        on some one goes_on = record { xs = (xs ++ Heard ∷ []) ++ all.more; led = all.led; pushes = pushes-on some; one = one; went = went-on all.only goes_on }
+        pub on : v.pushes ≤ w.pushes + 1 → HasOne b → Goes (machines (stages_in a)) nothing_yet (parts a) (lying a) (parts b) (lying b) → Handled shape a b m m p q
+        on some one goes_on = record { past = (past ++ Heard ∷ []) ++ all.more; led = all.led; pushes = pushes-on some; one = one; went = went-on all.only goes_on }
 
-  heard-transform : (before after : List State) (w : State) → IsAt i a.stages.items before w after → (v : Value) (k : ℕ) → k ≤ count_of plan
-      → heard_at FromBytes ToSink (count_of plan) k (Host id (Transform i v)) ≡ only_at (length before) (told (v ∷ []) Open) k
+  heard-transform : (before after : List State) (w : State) → IsAt i a.stages.items before w after → (v : Value) (k : ℕ) → k ≤ count_in shape
+      → heard_at FromBytes ToSink (count_in shape) k (Host id (Transform i v)) ≡ only_at (length before) (told (v ∷ []) Open) k
   heard-transform before after w at v k less =
-      let e = count-is plan a before after w goes since.led.is_of.stages at.whole in
-      subst (λ (s : StreamId). heard_at FromBytes ToSink (count_of plan) k (Host id (Transform s v)) ≡ only_at (length before) (told (v ∷ []) Open) k) (sym at.place)
-      ((each_event_is_heard_at_one_link FromBytes ToSink (count_of plan) k less).transform id (length before) v (omega arith))
+      let e = count-is shape a before after w goes since.led.is_of.stages at.whole in
+      subst (λ (s : StreamId). heard_at FromBytes ToSink (count_in shape) k (Host id (Transform s v)) ≡ only_at (length before) (told (v ∷ []) Open) k) (sym at.place)
+      ((each_event_is_heard_at_one_link FromBytes ToSink (count_in shape) k less).transform id (length before) v (omega arith))
 
-  heard-flush : (before after : List State) (w : State) → IsAt i a.stages.items before w after → (k : ℕ) → k ≤ count_of plan
-      → heard_at FromBytes ToSink (count_of plan) k (Host id (Flush i)) ≡ only_at (length before) (told [] Closed) k
+  heard-flush : (before after : List State) (w : State) → IsAt i a.stages.items before w after → (k : ℕ) → k ≤ count_in shape
+      → heard_at FromBytes ToSink (count_in shape) k (Host id (Flush i)) ≡ only_at (length before) (told [] Closed) k
   heard-flush before after w at k less =
-      let e = count-is plan a before after w goes since.led.is_of.stages at.whole in
-      subst (λ (s : StreamId). heard_at FromBytes ToSink (count_of plan) k (Host id (Flush s)) ≡ only_at (length before) (told [] Closed) k) (sym at.place)
-      ((each_event_is_heard_at_one_link FromBytes ToSink (count_of plan) k less).flush id (length before) (omega arith))
+      let e = count-is shape a before after w goes since.led.is_of.stages at.whole in
+      subst (λ (s : StreamId). heard_at FromBytes ToSink (count_in shape) k (Host id (Flush s)) ≡ only_at (length before) (told [] Closed) k) (sym at.place)
+      ((each_event_is_heard_at_one_link FromBytes ToSink (count_in shape) k less).flush id (length before) (omega arith))
 
-  no-stage : (e : Event) → AfterEvent plan xs a realm e → ((k : ℕ) → k ≤ count_of plan → heard_at FromBytes ToSink (count_of plan) k e ≡ silence) → Handled plan a was m m p q
+  no-stage : (e : Event) → AfterEvent shape past a realm e → ((k : ℕ) → k ≤ count_in shape → heard_at FromBytes ToSink (count_in shape) k e ≡ silence) → Handled shape a was m m p q
   no-stage e event quiet =
       record {
-        xs = xs ++ Heard ∷ [];
+        past = past ++ Heard ∷ [];
         led = event.led;
         pushes = λ h. subst (λ (n : ℕ). ArePushed n a.stages.items) (sym event.age) (since.pushes goes);
-        one = λ h. one-quiet a.ahead (heard_at FromBytes ToSink (count_of plan) 0 e) (behind_at 0 realm.slots) (behind_at 0 a.realm.slots) (quiet 0 (omega arith)) (event.short 0 (omega arith)) (since.one h);
-        went = went-rests plan a was m p q gained (going-stays a was goes) since.led.is_of.stages (record { realm = realm; stopped = a.stopped; is = refl })
-            (λ k less. unheard-lies plan xs a realm e event goes (coming a k) k less (ap in_bytes (quiet k less)));
+        one = λ h. one-quiet a.ahead (heard_at FromBytes ToSink (count_in shape) 0 e) (behind_at 0 realm.slots) (behind_at 0 a.realm.slots) (quiet 0 (omega arith)) (event.short 0 (omega arith)) (since.one h);
+        went = went-rests shape a was m p q gained (going-stays a was goes) since.led.is_of.stages (record { realm = realm; stopped = a.stopped; is = refl })
+            (λ k less. unheard-lies shape past a realm e event goes (coming a k) k less (ap in_bytes (quiet k less)));
       }
 
-  no-half : NoneThere i a.stages.items → IsNoHalf (count_of plan) i
+  no-half : NoneThere i a.stages.items → IsNoHalf (count_in shape) i
   no-half none =
       subst (λ (n : ℕ). IsNoHalf n i) (sym (length-map a.stages.items (λ w. w.stage)) ∙ ap length since.led.is_of.stages) (none-half i a.stages.items none)
 
-  pub transforms : (piece : List ℕ) → AfterEvent plan xs a realm (Host id (Transform i (Bytes piece))) → Transforms id i piece was b → Handled plan a b m m p q
+  pub transforms : (piece : List ℕ) → AfterEvent shape past a realm (Host id (Transform i (Bytes piece))) → Transforms id i piece was b → Handled shape a b m m p q
   transforms piece event (PushedOne before after w v pushed at live answers stage pushes c has puts) =
       let call = Transform i (Bytes piece) in
-      let past' = xs ++ Heard ∷ [] in
+      let past' = past ++ Heard ∷ [] in
       let by = (machine w.stage).push (kept_in w.work) piece in
       let n = had_behind before (length piece) was in
       let h = had-is before (length piece) was in
       let heard = heard-transform before after w at (Bytes piece) in
-      let led = led-stages plan past' n c before after w v (had-stages before (length piece) was ∙ at.whole) live stage has
-      (subst (Led plan past') (sym h.1) (led-ahead plan past' was h.0 h.2 event.led)) in
+      let led = led-stages shape past' n c before after w v (had-stages before (length piece) was ∙ at.whole) live stage has
+      (subst (Led shape past') (sym h.1) (led-ahead shape past' was h.0 h.2 event.led)) in
       let is : c ≡ record was { ahead = h.0; stages = c.stages } = has.is ∙ ap (λ (z : Node). record z { stages = c.stages }) h.1 in
       let less = next_is before after w at call (told (Bytes piece ∷ []) Open) event heard in
-      let may : (more : List Entry) (z : Node) → OnlyRealm c z → MayAsk plan (past' ++ more) z (Settle id (answer_by i pushed.ending)) =
-      λ more z only. may-answer plan past' more id i pushed.ending call z event.its (λ s e. cc)
+      let may : (more : List Entry) (z : Node) → OnlyRealm c z → MayAsk shape (past' ++ more) z (Settle id (answer_by i pushed.ending)) =
+      λ more z only. may-answer shape past' more id i pushed.ending call z event.its (λ s e. cc)
       (λ code place e. ended-as i code place z.stages.items before after v at.place (items-now c z (before ++ v ∷ after) only has.items)
       (pushed-over v.work by.ending pushed.ending by.kept code place answers.goes_on answers.ending e))
       (λ s e. absurd (cc)) in
-      let all = subst (λ (cs : List (List ℕ)). AfterAll plan past' (length before) cs c b) answers.chunks (puts-all plan past' (length before) id i pushed c b less at.place led may puts) in
+      let all = subst (λ (cs : List (List ℕ)). AfterAll shape past' (length before) cs c b) answers.chunks (puts-all shape past' (length before) id i pushed c b less at.place led may puts) in
       let t = told (Bytes piece ∷ []) Open in
       on before after w at call t event heard v c h.0 is has.items stage by.chunks all (omega (arith, pushes))
-      (one-pushed before after w v piece (heard_at FromBytes ToSink (count_of plan) 0 (Host id call)) at.whole (b-items before after w at call t event heard v c h.0 is has.items stage all.only) live
+      (one-pushed before after w v piece (heard_at FromBytes ToSink (count_in shape) 0 (Host id call)) at.whole (b-items before after w at call t event heard v c h.0 is has.items stage all.only) live
       (ahead-now c b n all.only has.is) (heard 0 (omega arith)) (event.short 0 (omega arith))
       (one-from before after w at call t event heard v c h.0 is has.items stage by.chunks all))
-      (pushed-goes plan a before after w goes since.led.is_of.stages at.whole b v (b-input before after w at call t event heard v c h.0 is has.items stage all.only)
+      (pushed-goes shape a before after w goes since.led.is_of.stages at.whole b v (b-input before after w at call t event heard v c h.0 is has.items stage all.only)
       (b-items before after w at call t event heard v c h.0 is has.items stage all.only) piece live answers.goes_on (stepped before after w at call t event heard v c h.0 is has.items stage by.chunks all))
   transforms piece event (NoRoomToPush before after w v at live stage over c has ends) =
       let call = Transform i (Bytes piece) in
-      let past' = xs ++ Heard ∷ [] in
+      let past' = past ++ Heard ∷ [] in
       let n = had_behind before (length piece) was in
       let h = had-is before (length piece) was in
-      let led = led-stages plan past' n c before after w v (had-stages before (length piece) was ∙ at.whole) live stage has
-      (subst (Led plan past') (sym h.1) (led-ahead plan past' was h.0 h.2 event.led)) in
+      let led = led-stages shape past' n c before after w v (had-stages before (length piece) was ∙ at.whole) live stage has
+      (subst (Led shape past') (sym h.1) (led-ahead shape past' was h.0 h.2 event.led)) in
       let is : c ≡ record was { ahead = h.0; stages = c.stages } = has.is ∙ ap (λ (z : Node). record z { stages = c.stages }) h.1 in
       stopped-on before after w at call (told (Bytes piece ∷ []) Open) event (heard-transform before after w at (Bytes piece)) v c h.0 is has.items stage led ends over live
       (λ u us e. ap (λ (z : Node). z.ahead) has.is ∙ had-kept before (length piece) was u us e)
   transforms piece event (NotPushed before after w at not_live is) =
-      subst (λ (n : Node). Handled plan a n m m p q) (sym is)
+      subst (λ (n : Node). Handled shape a n m m p q) (sym is)
       (over-on before after w at (Transform i (Bytes piece)) (told (Bytes piece ∷ []) Open) event (heard-transform before after w at (Bytes piece)) not_live)
   transforms piece event (NothingToPush none is) =
-      subst (λ (n : Node). Handled plan a n m m p q) (sym is)
-      (no-stage (Host id (Transform i (Bytes piece))) event (λ k less. no-transform (count_of plan) k id i less (no-half none) (Bytes piece)))
+      subst (λ (n : Node). Handled shape a n m m p q) (sym is)
+      (no-stage (Host id (Transform i (Bytes piece))) event (λ k less. no-transform (count_in shape) k id i less (no-half none) (Bytes piece)))
 
-  pub flushes : AfterEvent plan xs a realm (Host id (Flush i)) → Flushes id i was b → Handled plan a b m m p q
+  pub flushes : AfterEvent shape past a realm (Host id (Flush i)) → Flushes id i was b → Handled shape a b m m p q
   flushes event (FlushedOne before after w v flushed at live answers stage pushes c has puts) =
       let call = Flush i in
-      let past' = xs ++ Heard ∷ [] in
+      let past' = past ++ Heard ∷ [] in
       let by = (machine w.stage).flush (kept_in w.work) in
       let heard = heard-flush before after w at in
       let t : Told Value = told [] Closed in
-      let led = led-stages plan past' was c before after w v at.whole live stage has event.led in
+      let led = led-stages shape past' was c before after w v at.whole live stage has event.led in
       let less = next_is before after w at call t event heard in
-      let may : (more : List Entry) (z : Node) → OnlyRealm c z → MayAsk plan (past' ++ more) z (Settle id (answer_by i flushed.ending)) =
+      let may : (more : List Entry) (z : Node) → OnlyRealm c z → MayAsk shape (past' ++ more) z (Settle id (answer_by i flushed.ending)) =
       λ more z only.
       let items : z.stages.items ≡ before ++ v ∷ after = items-now c z (before ++ v ∷ after) only has.items in
-      may-answer plan past' more id i flushed.ending call z event.its (λ s e. cc)
+      may-answer shape past' more id i flushed.ending call z event.its (λ s e. cc)
       (λ code place e. ended-as i code place z.stages.items before after v at.place items (flushed-over v.work by.ending flushed.ending (Bad code place) answers.over answers.ending e))
       (λ s e fine first last u there.
       ap (λ (x : State). x.work) (the-stage s z.stages.items before after v (sym (flush-same i s e) ∙ at.place) items first last u there) ∙ flushed-over v.work by.ending flushed.ending Fine answers.over answers.ending fine) in
-      let all = subst (λ (cs : List (List ℕ)). AfterAll plan past' (length before) cs c b) answers.chunks (puts-all plan past' (length before) id i flushed c b less at.place led may puts) in
+      let all = subst (λ (cs : List (List ℕ)). AfterAll shape past' (length before) cs c b) answers.chunks (puts-all shape past' (length before) id i flushed c b less at.place led may puts) in
       on before after w at call t event heard v c a.ahead has.is has.items stage by.chunks all (omega (arith, pushes))
-      (one-ended before after w v t (heard_at FromBytes ToSink (count_of plan) 0 (Host id call)) b at.whole (b-items before after w at call t event heard v c a.ahead has.is has.items stage all.only)
+      (one-ended before after w v t (heard_at FromBytes ToSink (count_in shape) 0 (Host id call)) b at.whole (b-items before after w at call t event heard v c a.ahead has.is has.items stage all.only)
       (λ l. subst IsLive answers.over l) (λ u us e. ahead-now c b was all.only has.is) (heard 0 (omega arith)) (event.short 0 (omega arith))
       (one-from before after w at call t event heard v c a.ahead has.is has.items stage by.chunks all))
-      (flushed-goes plan a before after w goes since.led.is_of.stages at.whole b v (b-input before after w at call t event heard v c a.ahead has.is has.items stage all.only)
+      (flushed-goes shape a before after w goes since.led.is_of.stages at.whole b v (b-input before after w at call t event heard v c a.ahead has.is has.items stage all.only)
       (b-items before after w at call t event heard v c a.ahead has.is has.items stage all.only) live answers.over (stepped before after w at call t event heard v c a.ahead has.is has.items stage by.chunks all))
   flushes event (NoRoomToFlush before after w v at live stage over c has ends) =
-      let past' = xs ++ Heard ∷ [] in
-      let led = led-stages plan past' was c before after w v at.whole live stage has event.led in
+      let past' = past ++ Heard ∷ [] in
+      let led = led-stages shape past' was c before after w v at.whole live stage has event.led in
       stopped-on before after w at (Flush i) (told [] Closed) event (heard-flush before after w at) v c a.ahead has.is has.items stage led ends over live (λ u us e. ap (λ (z : Node). z.ahead) has.is)
   flushes event (NotFlushed before after w at not_live is) =
-      subst (λ (n : Node). Handled plan a n m m p q) (sym is) (over-on before after w at (Flush i) (told [] Closed) event (heard-flush before after w at) not_live)
+      subst (λ (n : Node). Handled shape a n m m p q) (sym is) (over-on before after w at (Flush i) (told [] Closed) event (heard-flush before after w at) not_live)
   flushes event (NothingToFlush none is) =
-      subst (λ (n : Node). Handled plan a n m m p q) (sym is) (no-stage (Host id (Flush i)) event (λ k less. no-flush (count_of plan) k id i less (no-half none)))
+      subst (λ (n : Node). Handled shape a n m m p q) (sym is) (no-stage (Host id (Flush i)) event (λ k less. no-flush (count_in shape) k id i less (no-half none)))

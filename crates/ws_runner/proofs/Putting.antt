@@ -4,7 +4,7 @@ use Rattle.std.proofs.lemmas.List.Elements.{All-nil}
 use Rattle.ws_value.specs.declared.ids.HostId.{HostId}
 use Rattle.ws_value.specs.declared.value.Value.{Value}
 use Rattle.ws_value.specs.declared.value.Value.TheVariants.{Bytes}
-use Rattle.ws_flow.specs.declared.plan.Plan.{Plan}
+use Rattle.ws_runner.specs.Shape.{Shape, count_in}
 use Rattle.ws_flow.specs.Told.{Open, Told, told, then_told, IsShortOf}
 use Rattle.ws_flow.proofs.Told.{then_empty, short_refl, short_trans}
 use Rattle.ws_steps.specs.declared.calls.Answer.{Answer}
@@ -18,7 +18,6 @@ use Rattle.ws_link_laws.specs.Link.{silence}
 use Rattle.ws_runner.specs.declared.node.Node.{Node}
 use Rattle.ws_runner.specs.Moves.{Asks, Performed, Refused, Enqueues, NoPiece, NotTaken, OneTaken, enqueues}
 use Rattle.ws_runner.specs.Node.{in_bytes}
-use Rattle.ws_runner.specs.Opening.{count_of}
 use Rattle.ws_runner.specs.Past.{IsCause, OneAtMost, Led}
 use Rattle.ws_runner.proofs.Since.{OnlyRealm, MayAsk, since-asks, dropped}
 use Rattle.ws_runner.proofs.Handing.{lies_to}
@@ -37,18 +36,18 @@ asked-before c a b (Refused why stops is) e = absurd (let f : Some why ≡ None 
 
 -- a call that brings nothing, as a settling
 
-pub record AfterQuiet (plan : Plan) (xs : List Entry) (a b : Node) : Type 0 where
+pub record AfterQuiet (shape : Shape) (past : List Entry) (a b : Node) : Type 0 where
   pub more : List Entry
-  pub led : Led plan (xs ++ more) b
+  pub led : Led shape (past ++ more) b
   pub only : OnlyRealm a b
-  pub lies : (t : Told (List ℕ)) (k : ℕ) → k ≤ count_of plan → IsShortOf (lies_to t b k) (lies_to t a k)
+  pub lies : (t : Told (List ℕ)) (k : ℕ) → k ≤ count_in shape → IsShortOf (lies_to t b k) (lies_to t a k)
   pub one : (m : ℕ) → OneAtMost m (behind_at 0 a.realm.slots).items → OneAtMost m (behind_at 0 b.realm.slots).items
   pub before : b.stopped ≡ None → a.stopped ≡ None
   pub older : b.stopped ≡ None → a.realm.slots.age < b.realm.slots.age
 
-pub asks-quietly : (plan : Plan) (xs : List Entry) (a b : Node) (c : Call) → ((k : ℕ) → call_enters FromBytes k c ≡ silence) → Led plan xs a → MayAsk plan xs a c → Asks c a b → AfterQuiet plan xs a b
-asks-quietly plan xs a b c quiet led may asks =
-    let after = since-asks plan xs a b c led may asks in
+pub asks-quietly : (shape : Shape) (past : List Entry) (a b : Node) (c : Call) → ((k : ℕ) → call_enters FromBytes k c ≡ silence) → Led shape past a → MayAsk shape past a c → Asks c a b → AfterQuiet shape past a b
+asks-quietly shape past a b c quiet led may asks =
+    let after = since-asks shape past a b c led may asks in
     record {
       more = after.more;
       led = after.led;
@@ -61,11 +60,11 @@ asks-quietly plan xs a b c quiet led may asks =
       older = λ e. let f = after.older e in omega arith;
     }
 
-pub quiet-then : (plan : Plan) (xs : List Entry) (a b c : Node) → (first : AfterQuiet plan xs a b) → AfterQuiet plan (xs ++ first.more) b c → AfterQuiet plan xs a c
-quiet-then plan xs a b c first second =
+pub quiet-then : (shape : Shape) (past : List Entry) (a b c : Node) → (first : AfterQuiet shape past a b) → AfterQuiet shape (past ++ first.more) b c → AfterQuiet shape past a c
+quiet-then shape past a b c first second =
     record {
       more = first.more ++ second.more;
-      led = subst (λ q. Led plan q c) (append_assoc xs first.more second.more) second.led;
+      led = subst (λ q. Led shape q c) (append_assoc past first.more second.more) second.led;
       only = only-then a b c first.only second.only;
       lies = λ t k less. short_trans _ _ _ (second.lies t k less) (first.lies t k less);
       one = λ m o. second.one m (first.one m o);
@@ -78,18 +77,18 @@ settle-quiet id x k = (each_nodes_call_brings FromBytes k).settle id x
 
 -- chunks that are put out into a link behind the first
 
-pub record AfterPuts (plan : Plan) (xs : List Entry) (m : ℕ) (chunks : List (List ℕ)) (a b : Node) : Type 0 where
+pub record AfterPuts (shape : Shape) (past : List Entry) (m : ℕ) (chunks : List (List ℕ)) (a b : Node) : Type 0 where
   pub more : List Entry
-  pub led : Led plan (xs ++ more) b
+  pub led : Led shape (past ++ more) b
   pub only : OnlyRealm a b
   pub there : (t : Told (List ℕ)) → IsShortOf (lies_to t b (suc m)) (lies_to (then_told (told chunks Open) t) a (suc m))
-  pub elsewhere : (t : Told (List ℕ)) (k : ℕ) → k ≤ count_of plan → k ≢ suc m → IsShortOf (lies_to t b k) (lies_to t a k)
+  pub elsewhere : (t : Told (List ℕ)) (k : ℕ) → k ≤ count_in shape → k ≢ suc m → IsShortOf (lies_to t b k) (lies_to t a k)
   pub one : (q : ℕ) → OneAtMost q (behind_at 0 a.realm.slots).items → OneAtMost q (behind_at 0 b.realm.slots).items
   pub older : b.stopped ≡ None → a.realm.slots.age ≤ b.realm.slots.age
 
-module _ (plan : Plan) (m : ℕ) (less : suc m ≤ count_of plan) where
-  may-enqueue : (xs : List Entry) (a : Node) (piece : List ℕ) → MayAsk plan xs a (enqueues (source_of (suc m)) piece)
-  may-enqueue xs a piece = record { is_nodes = tt; failed = All-nil (IsCause a); closes = λ id e c. absurd (cc); flushes = λ id i e c first last w at. absurd (cc) }
+module _ (shape : Shape) (m : ℕ) (less : suc m ≤ count_in shape) where
+  may-enqueue : (past : List Entry) (a : Node) (piece : List ℕ) → MayAsk shape past a (enqueues (source_of (suc m)) piece)
+  may-enqueue past a piece = record { is_own = tt; failed = All-nil (IsCause a); closes = λ id e c. absurd (cc); flushes = λ id i e c first last w at. absurd (cc) }
 
   brings : (piece : List ℕ) (k : ℕ) → call_enters FromBytes k (enqueues (source_of (suc m)) piece) ≡ only_at (suc m) (told (Bytes piece ∷ []) Open) k
   brings piece k = (each_nodes_call_brings FromBytes k).enqueue (suc m) (Bytes piece)
@@ -104,18 +103,18 @@ module _ (plan : Plan) (m : ℕ) (less : suc m ≤ count_of plan) where
   not_first e = omega arith
 
   -- one chunk
-  record AfterOne (xs : List Entry) (piece : List ℕ) (a b : Node) : Type 0 where
+  record AfterOne (past : List Entry) (piece : List ℕ) (a b : Node) : Type 0 where
     more : List Entry
-    led : Led plan (xs ++ more) b
+    led : Led shape (past ++ more) b
     only : OnlyRealm a b
     there : (t : Told (List ℕ)) → IsShortOf (lies_to t b (suc m)) (lies_to (then_told (told (piece ∷ []) Open) t) a (suc m))
-    elsewhere : (t : Told (List ℕ)) (k : ℕ) → k ≤ count_of plan → k ≢ suc m → IsShortOf (lies_to t b k) (lies_to t a k)
+    elsewhere : (t : Told (List ℕ)) (k : ℕ) → k ≤ count_in shape → k ≢ suc m → IsShortOf (lies_to t b k) (lies_to t a k)
     one : (q : ℕ) → OneAtMost q (behind_at 0 a.realm.slots).items → OneAtMost q (behind_at 0 b.realm.slots).items
     older : b.stopped ≡ None → b.realm.slots.age ≡ suc a.realm.slots.age
 
-  puts-one : (xs : List Entry) (piece : List ℕ) (a b : Node) → Led plan xs a → Asks (enqueues (source_of (suc m)) piece) a b → AfterOne xs piece a b
-  puts-one xs piece a b led asks =
-      let after = since-asks plan xs a b (enqueues (source_of (suc m)) piece) led (may-enqueue xs a piece) asks in
+  puts-one : (past : List Entry) (piece : List ℕ) (a b : Node) → Led shape past a → Asks (enqueues (source_of (suc m)) piece) a b → AfterOne past piece a b
+  puts-one past piece a b led asks =
+      let after = since-asks shape past a b (enqueues (source_of (suc m)) piece) led (may-enqueue past a piece) asks in
       record {
         more = after.more;
         led = after.led;
@@ -128,34 +127,34 @@ module _ (plan : Plan) (m : ℕ) (less : suc m ≤ count_of plan) where
         older = after.older;
       }
 
-  pub puts : (xs : List Entry) (chunks : List (List ℕ)) (a b : Node) → Led plan xs a → Enqueues (source_of (suc m)) chunks a b → AfterPuts plan xs m chunks a b
-  puts xs chunks a b led (NoPiece n) =
+  pub puts : (past : List Entry) (chunks : List (List ℕ)) (a b : Node) → Led shape past a → Enqueues (source_of (suc m)) chunks a b → AfterPuts shape past m chunks a b
+  puts past chunks a b led (NoPiece n) =
       record {
         more = [];
-        led = subst (λ q. Led plan q a) (sym (append-nil xs)) led;
+        led = subst (λ q. Led shape q a) (sym (append-nil past)) led;
         only = only-refl a;
         there = λ t. short_refl (lies_to t a (suc m));
         elsewhere = λ t k l other. short_refl (lies_to t a k);
         one = λ q o. o;
         older = λ e. omega arith;
       }
-  puts xs chunks a b led (NotTaken piece rest x y asks not_done) =
-      let first = puts-one xs piece a b led asks in
+  puts past chunks a b led (NotTaken piece rest x y asks not_done) =
+      let first = puts-one past piece a b led asks in
       record {
         more = first.more;
         led = first.led;
         only = first.only;
-        there = λ t. dropped plan xs a b m piece less led asks not_done (λ j. t) (λ j. then_told (told (piece ∷ rest) Open) t);
+        there = λ t. dropped shape past a b m piece less led asks not_done (λ j. t) (λ j. then_told (told (piece ∷ rest) Open) t);
         elsewhere = first.elsewhere;
         one = first.one;
         older = λ e. let f = first.older e in omega arith;
       }
-  puts xs chunks a b led (OneTaken piece rest x y c asks done after) =
-      let first = puts-one xs piece a c led asks in
-      let next = puts (xs ++ first.more) rest c b first.led after in
+  puts past chunks a b led (OneTaken piece rest x y c asks done after) =
+      let first = puts-one past piece a c led asks in
+      let next = puts (past ++ first.more) rest c b first.led after in
       record {
         more = first.more ++ next.more;
-        led = subst (λ q. Led plan q b) (append_assoc xs first.more next.more) next.led;
+        led = subst (λ q. Led shape q b) (append_assoc past first.more next.more) next.led;
         only = only-then a c b first.only next.only;
         there = λ t. short_trans _ _ _ (next.there t) (first.there (then_told (told rest Open) t));
         elsewhere = λ t k l other. short_trans _ _ _ (next.elsewhere t k l other) (first.elsewhere t k l other);

@@ -10,9 +10,8 @@ use Rattle.ws_value.specs.declared.ids.StreamId.{StreamId}
 use Rattle.ws_value.specs.declared.value.Plain.TheVariants.{Fault as FaultReason}
 use Rattle.ws_value.specs.declared.value.Value.{Value}
 use Rattle.ws_value.specs.declared.value.Value.TheVariants.{Bytes, Plain as PlainValue}
-use Rattle.ws_flow.specs.declared.plan.Plan.{Plan}
+use Rattle.ws_runner.specs.Shape.{Shape, count_in}
 use Rattle.ws_flow.specs.Parts.{AtWork, Goes}
-use Rattle.ws_flow.specs.Plans.{stages_of}
 use Rattle.ws_flow.specs.Stages.{machines}
 use Rattle.ws_flow.specs.Steps.{parts_at, behind_of}
 use Rattle.ws_flow.specs.Told.{Mark, Open as MayCome, Closed, Broken, Lost, Told, told, goes_on, then_told, IsShortOf}
@@ -29,12 +28,10 @@ use Rattle.ws_steps.specs.declared.calls.Call.{Call}
 use Rattle.ws_steps.specs.declared.calls.Call.TheVariants.{Enqueue, Finish, Fail}
 use Rattle.ws_steps.specs.declared.calls.HostCall.{HostCall}
 use Rattle.ws_steps.specs.declared.calls.HostCall.TheVariants.{Pull}
-use Rattle.ws_steps.specs.Run.{Entry, Called}
+use Rattle.ws_steps.specs.Run.{Entry}
 use Rattle.ws_host_laws.specs.HostCalls.{called, settles_well}
-use Rattle.ws_host_laws.proofs.Called.{each_event_is_its_call}
 use Rattle.ws_link_laws.specs.Link.{silence}
 use Rattle.ws_chain_laws.specs.Chain.{FromBytes, ToSink, behind_at, call_enters}
-use Rattle.ws_chain_laws.specs.Opening.{opening, piping, signal_of}
 use Rattle.ws_chain_laws.specs.Nodes.{only_at}
 use Rattle.ws_chain_laws.proofs.Nodes.{each_nodes_call_brings}
 use Rattle.ws_realm.specs.declared.realm.Why.{Why}
@@ -47,10 +44,10 @@ use Rattle.ws_runner.specs.declared.node.Output.TheVariants as output
 use Rattle.ws_runner.specs.Host.{GivesPiece, IsPiece}
 use Rattle.ws_runner.specs.Moves.{Asks, Performed, Refused, settles, takes_bytes, Takes, Reads, ReadNot, Wanted, ReadOnce}
 use Rattle.ws_runner.specs.Node.{source, in_bytes, lost_by, coming, coming_behind, lying_by, lies, lies_in, lying, nothing_yet, parts, stages_in, works_in}
-use Rattle.ws_runner.specs.Opening.{count_of, is_aborted, past}
 use Rattle.ws_runner.specs.Past.{IsCause, IsPull, Counts, ArePushed, OneAtMost, may_have, Led, Since}
 use Rattle.ws_runner.specs.Went.{InputGoes, OutputGoes, AbortGoes}
 use Rattle.ws_runner.proofs.Changes.{answering, led-input, led-unasked, led-stopped}
+use Rattle.ws_runner.proofs.Entries.{called-longer}
 use Rattle.ws_runner.proofs.Going.{abort-same, as-many, works-count, going-acts, going-stays, went-quietly, went-same, only-same}
 use Rattle.ws_runner.proofs.Handled.{Handled}
 use Rattle.ws_runner.proofs.Since.{OnlyRealm, MayAsk, since-asks}
@@ -86,25 +83,6 @@ one-closes m x j none = one-closes-by m x.items x.mark j none
 one-comes : (m : ℕ) (piece : List ℕ) (x : Told Value) → x.items ≡ [] → length piece ≡ m → 0 < m → OneAtMost m (then_told x (told (Bytes piece ∷ []) MayCome)).items
 one-comes m piece x none long some = one-comes-by m piece x.items x.mark none long some
 
--- the call of a host's number is the same in a longer past
-
-get-front : {A : Type 0} (xs rest : List A) (n : ℕ) (x : A) → slice_get xs n ≡ Some x → slice_get (xs ++ rest) n ≡ Some x
-get-front [] rest n x h = absurd (cc)
-get-front (y ∷ xs) rest zero x h = h
-get-front (y ∷ xs) rest (suc n) x h = get-front xs rest n x h
-
-called-on : (entries more : List Entry) (id : HostId) (call : HostCall) → slice_get (called entries) id.0 ≡ Some call → slice_get (called (entries ++ more)) id.0 ≡ Some call
-called-on entries more id call h =
-    let g = (each_event_is_its_call entries).grows more in
-    subst (λ q. slice_get q id.0 ≡ Some call) (sym g.1) (get-front (called entries) g.0 id.0 call h)
-
-past-on : (plan : Plan) (xs more : List Entry) → past plan (xs ++ more) ≡ past plan xs ++ more
-past-on plan xs more = sym (append_assoc (opening FromBytes ToSink (count_of plan) (is_aborted plan)) (Called (piping (signal_of (is_aborted plan)) (count_of plan)) ∷ xs) more)
-
-call-on : (plan : Plan) (xs more : List Entry) (id : HostId) (call : HostCall) → slice_get (called (past plan xs)) id.0 ≡ Some call
-    → slice_get (called (past plan (xs ++ more))) id.0 ≡ Some call
-call-on plan xs more id call h = subst (λ q. slice_get (called q) id.0 ≡ Some call) (sym (past-on plan xs more)) (called-on (past plan xs) more id call h)
-
 -- the settling of a pull is neither that of a close nor of a flush
 
 id_of : (id i : HostId) (a b : Call) → a ≡ settles id → b ≡ settles_well i → a ≡ b → id ≡ i
@@ -113,13 +91,13 @@ id_of id i a b e f g = grind arith
 other-call : (calls : List HostCall) (id i : HostId) (a b : HostCall) → id ≡ i → slice_get calls id.0 ≡ Some a → slice_get calls i.0 ≡ Some b → a ≡ b
 other-call calls id i a b e f g = grind arith
 
-pull-may : (plan : Plan) (xs : List Entry) (n : Node) (id : HostId) (i : StreamId) → slice_get (called (past plan xs)) id.0 ≡ Some (Pull i) → MayAsk plan xs n (settles id)
-pull-may plan xs n id i pull =
+pull-may : (shape : Shape) (past : List Entry) (n : Node) (id : HostId) (i : StreamId) → slice_get (called past) id.0 ≡ Some (Pull i) → MayAsk shape past n (settles id)
+pull-may shape past n id i pull =
     record {
-      is_nodes = tt;
+      is_own = tt;
       failed = All-nil (IsCause n);
-      closes = λ j e close. let f = other-call (called (past plan xs)) id j _ _ (id_of id j _ _ refl refl e) pull close in absurd (cc);
-      flushes = λ j k e flush first last w at. let f = other-call (called (past plan xs)) id j _ _ (id_of id j _ _ refl refl e) pull flush in absurd (cc);
+      closes = λ j e close. let f = other-call (called past) id j _ _ (id_of id j _ _ refl refl e) pull close in absurd (cc);
+      flushes = λ j k e flush first last w at. let f = other-call (called past) id j _ _ (id_of id j _ _ refl refl e) pull flush in absurd (cc);
     }
 
 -- the call that hands on what was read, and then the settling of the pull
@@ -132,11 +110,11 @@ only-then a b c first second =
       is = second.is ∙ ap (λ (n : Node). record n { realm = second.realm; stopped = second.stopped }) first.is;
     }
 
-record Both (plan : Plan) (xs : List Entry) (c : Call) (n b : Node) : Type 0 where
+record Both (shape : Shape) (past : List Entry) (c : Call) (n b : Node) : Type 0 where
   pub more : List Entry
-  pub led : Led plan more b
+  pub led : Led shape more b
   pub only : OnlyRealm n b
-  pub short : (d : ℕ → Told (List ℕ)) (k : ℕ) → k ≤ count_of plan → IsShortOf (lies d b k) (lies (λ j. then_told (in_bytes (call_enters FromBytes j c)) (d j)) n k)
+  pub short : (d : ℕ → Told (List ℕ)) (k : ℕ) → k ≤ count_in shape → IsShortOf (lies d b k) (lies (λ j. then_told (in_bytes (call_enters FromBytes j c)) (d j)) n k)
   pub one : (m : ℕ) → OneAtMost m (then_told (behind_at 0 n.realm.slots) (call_enters FromBytes 0 c)).items → OneAtMost m (behind_at 0 b.realm.slots).items
   pub older : b.stopped ≡ None → n.realm.slots.age ≤ b.realm.slots.age
 
@@ -145,24 +123,24 @@ going-on c a b (Performed realm slots young goes is) e = goes
 going-on c a b (Refused why stops is) e = let f : b.stopped ≡ Some why = ap (λ (n : Node). n.stopped) is in absurd (cc)
 
 -- the settling brings nothing
-settled-short : (plan : Plan) (mid b : Node) (id : HostId) (d : ℕ → Told (List ℕ)) (k : ℕ)
+settled-short : (shape : Shape) (mid b : Node) (id : HostId) (d : ℕ → Told (List ℕ)) (k : ℕ)
     → IsShortOf (lies d b k) (lies (λ j. then_told (in_bytes (call_enters FromBytes j (settles id))) (d j)) mid k) → IsShortOf (lies d b k) (lies d mid k)
-settled-short plan mid b id d k h =
+settled-short shape mid b id d k h =
     subst (λ (t : Told Value). IsShortOf (lies d b k) (lies (λ j. then_told (in_bytes t) (d j)) mid k)) ((each_nodes_call_brings FromBytes k).settle id AnswerOk) h
 
 settled-one : (x : Told Value) (c : Call) (m : ℕ) → call_enters FromBytes 0 c ≡ silence → OneAtMost m x.items → OneAtMost m (then_told x (call_enters FromBytes 0 c)).items
 settled-one x c m e o = subst (λ (q : Told Value). OneAtMost m q.items) (sym (ap (λ q. then_told x q) e ∙ then_empty x)) o
 
-both : (plan : Plan) (xs : List Entry) (n mid b : Node) (c : Call) (id : HostId) (i : StreamId) → slice_get (called (past plan xs)) id.0 ≡ Some (Pull i) → Led plan xs n
-    → MayAsk plan xs n c → Asks c n mid → Asks (settles id) mid b → Both plan xs c n b
-both plan xs n mid b c id i pull led may asks settles_it =
-    let first = since-asks plan xs n mid c led may asks in
-    let second = since-asks plan (xs ++ first.more) mid b (settles id) first.led (pull-may plan (xs ++ first.more) mid id i (call-on plan xs first.more id (Pull i) pull)) settles_it in
+both : (shape : Shape) (past : List Entry) (n mid b : Node) (c : Call) (id : HostId) (i : StreamId) → slice_get (called past) id.0 ≡ Some (Pull i) → Led shape past n
+    → MayAsk shape past n c → Asks c n mid → Asks (settles id) mid b → Both shape past c n b
+both shape past n mid b c id i pull led may asks settles_it =
+    let first = since-asks shape past n mid c led may asks in
+    let second = since-asks shape (past ++ first.more) mid b (settles id) first.led (pull-may shape (past ++ first.more) mid id i (called-longer past first.more id (Pull i) pull)) settles_it in
     record {
-      more = (xs ++ first.more) ++ second.more;
+      more = (past ++ first.more) ++ second.more;
       led = second.led;
       only = only-then n mid b first.only second.only;
-      short = λ d k less. short_trans _ _ _ (settled-short plan mid b id d k (second.short d k less)) (first.short d k less);
+      short = λ d k less. short_trans _ _ _ (settled-short shape mid b id d k (second.short d k less)) (first.short d k less);
       one = λ m o. second.one m (settled-one (behind_at 0 mid.realm.slots) (settles id) m ((each_nodes_call_brings FromBytes 0).settle id AnswerOk) (first.one m o));
       older = λ going.
           let one = second.older going in
@@ -207,17 +185,17 @@ passes-at a c j d b same silent h =
     (ap (λ (q : Told Value). then_told (in_bytes q) (d (suc j))) silent ∙ same) h
 
 -- what came in lies before the first stage, or what came of it
-reads-goes : (plan : Plan) (a b : Node) (read : Told (List ℕ)) → stages_in a ≡ stages_of plan → works_in b ≡ works_in a → IsShortOf (lies_in b 0) (then_told (lies_in a 0) read)
-    → ((j : ℕ) → suc j ≤ count_of plan → IsShortOf (lies_in b (suc j)) (lies_in a (suc j)))
+reads-goes : (shape : Shape) (a b : Node) (read : Told (List ℕ)) → stages_in a ≡ shape.stages → works_in b ≡ works_in a → IsShortOf (lies_in b 0) (then_told (lies_in a 0) read)
+    → ((j : ℕ) → suc j ≤ count_in shape → IsShortOf (lies_in b (suc j)) (lies_in a (suc j)))
     → Goes (machines (stages_in a)) read (parts a) (lying a) (parts b) (lying b)
-reads-goes plan a b read stages works first others =
+reads-goes shape a b read stages works first others =
     subst (λ (ws : List AtWork). Goes (machines (stages_in a)) read (parts a) (lying a) (parts_at 0 ws (lies_in b)) (behind_of 0 ws (lies_in b))) (sym works)
     (goes_enters (machines (stages_in a)) 0 (works_in a) (lies_in a) (lies_in b) read (as-many a) first other) where
       other : (j : ℕ) → 0 < j → j ≤ 0 + length (works_in a) → IsShortOf (lies_in b j) (lies_in a j)
       other zero more less = absurd (omega arith)
-      other (suc j) more less = others j (let l = works-count plan a stages in omega arith)
+      other (suc j) more less = others j (let l = works-count shape a stages in omega arith)
 
-module _ (wf : ℕ) (finished : Option Bool) (p : List ℕ → Type 0) (plan : Plan) (xs : List Entry) (a b : Node) (old new : Option Feed) (before now : ℕ) (s : Since plan xs a) where
+module _ (wf : ℕ) (finished : Option Bool) (p : List ℕ → Type 0) (shape : Shape) (past : List Entry) (a b : Node) (old new : Option Feed) (before now : ℕ) (s : Since shape past a) where
   abbrev m₀ : Moment
   m₀ = moment before old wf finished
 
@@ -227,8 +205,8 @@ module _ (wf : ℕ) (finished : Option Bool) (p : List ℕ → Type 0) (plan : P
   module _ (goes : a.stopped ≡ None) (written : a.ahead ≡ 0) (was_open : a.input ≡ input.Open) (id : HostId) (asked : a.asked ≡ Some id) (want : ℕ) (most : want ≤ 4096)
       (limit : want ≤ (a.most - a.taken) + 1) where
     -- the pull that waited is one
-    is_pull : (i : StreamId) × (slice_get (called (past plan xs)) id.0 ≡ Some (Pull i))
-    is_pull = subst (IsPull (past plan xs)) asked s.led.asked
+    is_pull : (i : StreamId) × (slice_get (called past) id.0 ≡ Some (Pull i))
+    is_pull = subst (IsPull past) asked s.led.asked
 
     none : may_have a.stages.items a.output a.abort ≡ true → (behind_at 0 a.realm.slots).items ≡ []
     none may = none-behind a.ahead (behind_at 0 a.realm.slots).items written (s.one may)
@@ -237,15 +215,15 @@ module _ (wf : ℕ) (finished : Option Bool) (p : List ℕ → Type 0) (plan : P
     few = s.led.counts.within (λ e. let f = was_open in cc)
 
     -- what was read came in by this call
-    took : (taken ahead : ℕ) (i : Input) (c : Call) (mid : Node) (read : Told (List ℕ)) → Counts a.most taken ahead i → MayAsk plan xs (answering taken ahead i a) c
+    took : (taken ahead : ℕ) (i : Input) (c : Call) (mid : Node) (read : Told (List ℕ)) → Counts a.most taken ahead i → MayAsk shape past (answering taken ahead i a) c
         → Asks c (answering taken ahead i a) mid → Asks (settles id) mid b → ((j : ℕ) → call_enters FromBytes (suc j) c ≡ silence)
         → IsShortOf (then_told (in_bytes (call_enters FromBytes 0 c)) (lost_by i)) read
         → ((behind_at 0 a.realm.slots).items ≡ [] → OneAtMost ahead (then_told (behind_at 0 a.realm.slots) (call_enters FromBytes 0 c)).items)
         → Fed old new (concat read.items) → All (λ c. length c ≤ 4096) read.items → taken ≡ a.taken + length (concat read.items) → length (concat read.items) ≤ ahead
-        → InputGoes a.input i read m₀ m₁ → Handled plan a b m₀ m₁ p p
+        → InputGoes a.input i read m₀ m₁ → Handled shape a b m₀ m₁ p p
     took taken ahead i c mid read counts may asks settles_it silent came one fed short counted had goes_in =
         let n : Node = answering taken ahead i a in
-        let h = both plan xs n mid b c id is_pull.0 is_pull.1 (led-input plan xs a taken ahead i was_open counts s.led) may asks settles_it in
+        let h = both shape past n mid b c id is_pull.0 is_pull.1 (led-input shape past a taken ahead i was_open counts s.led) may asks settles_it in
         let same = only-same n b h.only in
         let items : b.stages.items ≡ a.stages.items = ap (λ (q : Node). q.stages.items) h.only.is in
         let ahead_is : b.ahead ≡ ahead = ap (λ (q : Node). q.ahead) h.only.is in
@@ -256,7 +234,7 @@ module _ (wf : ℕ) (finished : Option Bool) (p : List ℕ → Type 0) (plan : P
         enters-at a i c read (coming b) b goes was_open (subst (λ q. IsShortOf (then_told (in_bytes (call_enters FromBytes 0 c)) (lost_by q)) read) (sym input_is) came)
         (h.short (coming b) 0 (omega arith)) in
         record {
-          xs = h.more;
+          past = h.more;
           led = h.led;
           pushes = λ going. subst (λ ws. ArePushed b.realm.slots.age ws) (sym items) (pushed-on a.realm.slots.age b.realm.slots.age a.stages.items (h.older going) (s.pushes goes));
           one = λ may_be. subst (λ q. OneAtMost q (behind_at 0 b.realm.slots).items) (sym ahead_is)
@@ -270,7 +248,7 @@ module _ (wf : ℕ) (finished : Option Bool) (p : List ℕ → Type 0) (plan : P
             gained = Gains-nothing p;
             written = (refl, refl);
             short = short;
-            goes = reads-goes plan a b read s.led.is_of.stages (ap (λ (q : Node). works_in q) h.only.is) first
+            goes = reads-goes shape a b read s.led.is_of.stages (ap (λ (q : Node). works_in q) h.only.is) first
                 (λ j less. passes-at a c j (coming b) b (coming_is j) (silent j) (h.short (coming b) (suc j) less));
             counted = taken_is ∙ counted;
             ahead = λ e. omega arith;
@@ -287,7 +265,7 @@ module _ (wf : ℕ) (finished : Option Bool) (p : List ℕ → Type 0) (plan : P
         }
 
     -- the end of the input
-    ended : (c : Node) → IsPiece old new before now want [] → Asks (Finish source) (answering a.taken a.ahead input.Ended a) c → Asks (settles id) c b → Handled plan a b m₀ m₁ p p
+    ended : (c : Node) → IsPiece old new before now want [] → Asks (Finish source) (answering a.taken a.ahead input.Ended a) c → Asks (settles id) c b → Handled shape a b m₀ m₁ p p
     ended c piece asks settles_it =
         let counts = s.led.counts in
         let limited = counts.limited in
@@ -296,7 +274,7 @@ module _ (wf : ℕ) (finished : Option Bool) (p : List ℕ → Type 0) (plan : P
         let fewer = few in
         took a.taken a.ahead input.Ended (Finish source) c (told [] Closed)
         (record { limited = omega arith; bound = omega arith; within = λ e. fewer; beyond = λ e. absurd (cc); piece = omega arith; failed = λ e. absurd (cc) })
-        (record { is_nodes = tt; failed = All-nil (IsCause (answering a.taken a.ahead input.Ended a)); closes = λ i e. absurd (cc); flushes = λ i j e. absurd (cc) })
+        (record { is_own = (0, omega arith, refl); failed = All-nil (IsCause (answering a.taken a.ahead input.Ended a)); closes = λ i e. absurd (cc); flushes = λ i j e. absurd (cc) })
         asks settles_it (λ j. (each_nodes_call_brings FromBytes (suc j)).finish ∙ not-first (told [] Closed) j)
         (subst (λ (t : Told Value). IsShortOf (then_told (in_bytes t) (lost_by input.Ended)) (told [] Closed)) (sym (each_nodes_call_brings FromBytes 0).finish) (refl, refl))
         (λ e. subst (λ q. OneAtMost a.ahead (then_told (behind_at 0 a.realm.slots) q).items) (sym (each_nodes_call_brings FromBytes 0).finish) (one-closes a.ahead (behind_at 0 a.realm.slots) Closed e))
@@ -305,7 +283,7 @@ module _ (wf : ℕ) (finished : Option Bool) (p : List ℕ → Type 0) (plan : P
 
     -- a failed read
     failed : (c : Node) → Fed old new [] → KeepsEnd old new → Rose before now → Asks (Fail source (FaultReason ReadFault)) (answering a.taken a.ahead input.Failed a) c → Asks (settles id) c b
-        → Handled plan a b m₀ m₁ p p
+        → Handled shape a b m₀ m₁ p p
     failed c fed kept rose asks settles_it =
         let counts = s.led.counts in
         let limited = counts.limited in
@@ -315,7 +293,7 @@ module _ (wf : ℕ) (finished : Option Bool) (p : List ℕ → Type 0) (plan : P
         let n : Node = answering a.taken a.ahead input.Failed a in
         took a.taken a.ahead input.Failed (Fail source (FaultReason ReadFault)) c (told [] Lost)
         (record { limited = omega arith; bound = omega arith; within = λ e. fewer; beyond = λ e. absurd (cc); piece = omega arith; failed = λ e. written })
-        (record { is_nodes = (0, refl); failed = All-cons (IsCause n) (FaultReason ReadFault) [] refl (All-nil (IsCause n)); closes = λ i e. absurd (cc); flushes = λ i j e. absurd (cc) })
+        (record { is_own = (0, omega arith, refl); failed = All-cons (IsCause n) (FaultReason ReadFault) [] refl (All-nil (IsCause n)); closes = λ i e. absurd (cc); flushes = λ i j e. absurd (cc) })
         asks settles_it (λ j. (each_nodes_call_brings FromBytes (suc j)).fail source (FaultReason ReadFault))
         (subst (λ (t : Told Value). IsShortOf (then_told (in_bytes t) (lost_by input.Failed)) (told [] Lost)) (sym ((each_nodes_call_brings FromBytes 0).fail source (FaultReason ReadFault))) ([], refl))
         (λ e. subst (λ q. OneAtMost a.ahead (then_told (behind_at 0 a.realm.slots) q).items) (sym ((each_nodes_call_brings FromBytes 0).fail source (FaultReason ReadFault)))
@@ -337,7 +315,7 @@ module _ (wf : ℕ) (finished : Option Bool) (p : List ℕ → Type 0) (plan : P
       one_short = All-cons (λ c. length c ≤ 4096) (x ∷ rest) [] (let long = piece.short in omega arith) (All-nil (λ c. length c ≤ 4096))
 
       too_many : (c : Node) → a.most < a.taken + length (x ∷ rest) → Asks (Fail source (FaultReason TooMuch)) (answering (a.taken + length (x ∷ rest)) (length (x ∷ rest)) input.TooLong a) c
-          → Asks (settles id) c b → Handled plan a b m₀ m₁ p p
+          → Asks (settles id) c b → Handled shape a b m₀ m₁ p p
       too_many c more asks settles_it =
           let counts = s.led.counts in
           let limited = counts.limited in
@@ -347,7 +325,7 @@ module _ (wf : ℕ) (finished : Option Bool) (p : List ℕ → Type 0) (plan : P
           let n : Node = answering (a.taken + length (x ∷ rest)) (length (x ∷ rest)) input.TooLong a in
           took (a.taken + length (x ∷ rest)) (length (x ∷ rest)) input.TooLong (Fail source (FaultReason TooMuch)) c (told ((x ∷ rest) ∷ []) Lost)
           (record { limited = omega arith; bound = omega arith; within = λ e. absurd (e refl); beyond = λ e. more; piece = omega arith; failed = λ e. absurd (cc) })
-          (record { is_nodes = (0, refl); failed = All-cons (IsCause n) (FaultReason TooMuch) [] refl (All-nil (IsCause n)); closes = λ i e. absurd (cc); flushes = λ i j e. absurd (cc) })
+          (record { is_own = (0, omega arith, refl); failed = All-cons (IsCause n) (FaultReason TooMuch) [] refl (All-nil (IsCause n)); closes = λ i e. absurd (cc); flushes = λ i j e. absurd (cc) })
           asks settles_it (λ j. (each_nodes_call_brings FromBytes (suc j)).fail source (FaultReason TooMuch))
           (subst (λ (t : Told Value). IsShortOf (then_told (in_bytes t) (lost_by input.TooLong)) (told ((x ∷ rest) ∷ []) Lost)) (sym ((each_nodes_call_brings FromBytes 0).fail source (FaultReason TooMuch)))
           ((x ∷ rest) ∷ [], refl))
@@ -356,7 +334,7 @@ module _ (wf : ℕ) (finished : Option Bool) (p : List ℕ → Type 0) (plan : P
           fed_all one_short (omega arith) (omega arith) (rw was_open (refl, piece.calm, piece.before_end (omega arith)))
 
       some : (c : Node) → a.taken + length (x ∷ rest) ≤ a.most → Asks (Enqueue source (Bytes (x ∷ rest))) (answering (a.taken + length (x ∷ rest)) (length (x ∷ rest)) a.input a) c
-          → Asks (settles id) c b → Handled plan a b m₀ m₁ p p
+          → Asks (settles id) c b → Handled shape a b m₀ m₁ p p
       some c within asks settles_it =
           let counts = s.led.counts in
           let limited = counts.limited in
@@ -364,7 +342,7 @@ module _ (wf : ℕ) (finished : Option Bool) (p : List ℕ → Type 0) (plan : P
           let counted = count in
           took (a.taken + length (x ∷ rest)) (length (x ∷ rest)) a.input (Enqueue source (Bytes (x ∷ rest))) c (told ((x ∷ rest) ∷ []) MayCome)
           (record { limited = omega arith; bound = omega arith; within = λ e. within; beyond = λ e. let f = was_open in absurd (cc); piece = omega arith; failed = λ e. let f = was_open in absurd (cc) })
-          (record { is_nodes = tt; failed = All-nil (IsCause (answering (a.taken + length (x ∷ rest)) (length (x ∷ rest)) a.input a)); closes = λ i e. absurd (cc); flushes = λ i j e. absurd (cc) })
+          (record { is_own = tt; failed = All-nil (IsCause (answering (a.taken + length (x ∷ rest)) (length (x ∷ rest)) a.input a)); closes = λ i e. absurd (cc); flushes = λ i j e. absurd (cc) })
           asks settles_it (λ j. (each_nodes_call_brings FromBytes (suc j)).enqueue 0 (Bytes (x ∷ rest)) ∙ not-first (told (Bytes (x ∷ rest) ∷ []) MayCome) j)
           (subst (λ (i : Input). IsShortOf (then_told (in_bytes (call_enters FromBytes 0 (Enqueue source (Bytes (x ∷ rest))))) (lost_by i)) (told ((x ∷ rest) ∷ []) MayCome)) (sym was_open)
           (subst (λ (t : Told Value). IsShortOf (then_told (in_bytes t) nothing_yet) (told ((x ∷ rest) ∷ []) MayCome)) (sym ((each_nodes_call_brings FromBytes 0).enqueue 0 (Bytes (x ∷ rest)))) (refl, refl)))
@@ -374,24 +352,24 @@ module _ (wf : ℕ) (finished : Option Bool) (p : List ℕ → Type 0) (plan : P
           (subst (λ (i : Input). InputGoes i i (told ((x ∷ rest) ∷ []) MayCome) m₀ m₁) (sym was_open) (refl, piece.calm, piece.before_end (omega arith)))
 
       taken_by : (c : Node) (t : Bool) → nat_lt a.most (a.taken + length (x ∷ rest)) ≡ t → takes_bytes (x ∷ rest) (record a { asked = None }) c t → Asks (settles id) c b
-          → Handled plan a b m₀ m₁ p p
+          → Handled shape a b m₀ m₁ p p
       taken_by c true e asks settles_it = too_many c (grind (arith, nat_tests)) asks settles_it
       taken_by c false e asks settles_it = some c (grind (arith, nat_tests)) asks settles_it
 
     once : (piece : Result (List ℕ) Failed) (c : Node) → GivesPiece old new before now want piece → Takes piece (record a { asked = None }) c → Asks (settles id) c b
-        → Handled plan a b m₀ m₁ p p
+        → Handled shape a b m₀ m₁ p p
     once (Ok []) c gives takes settles_it = ended c gives takes settles_it
     once (Ok (x ∷ rest)) c gives takes settles_it = taken_by x rest gives c (nat_lt a.most (a.taken + length (x ∷ rest))) refl takes settles_it
     once (Err failure) c gives takes settles_it = failed c gives.moved gives.before_end gives.rose takes settles_it
 
 -- there was no memory for a read
-wanted : (plan : Plan) (xs : List Entry) (a : Node) (m : Moment) (p : List ℕ → Type 0) → Since plan xs a → a.stopped ≡ None
-    → Handled plan a (record a { asked = None; stopped = Some NoMemory }) m m p p
-wanted plan xs a m p s goes =
+wanted : (shape : Shape) (past : List Entry) (a : Node) (m : Moment) (p : List ℕ → Type 0) → Since shape past a → a.stopped ≡ None
+    → Handled shape a (record a { asked = None; stopped = Some NoMemory }) m m p p
+wanted shape past a m p s goes =
     let b : Node = record a { asked = None; stopped = Some NoMemory } in
     record {
-      xs = xs;
-      led = led-stopped plan xs (record a { asked = None }) NoMemory (λ e. absurd (cc)) (led-unasked plan xs a s.led);
+      past = past;
+      led = led-stopped shape past (record a { asked = None }) NoMemory (λ e. absurd (cc)) (led-unasked shape past a s.led);
       pushes = λ e. absurd (cc);
       one = s.one;
       went = went-quietly a b m p p (Gains-nothing p) (going-stays a b goes)
@@ -400,11 +378,11 @@ wanted plan xs a m p s goes =
     }
 
 -- a node reads its input, or doesn't
-pub reads : (wf : ℕ) (finished : Option Bool) (p : List ℕ → Type 0) (plan : Plan) (xs : List Entry) (a b : Node) (old new : Option Feed) (before now : ℕ) → Since plan xs a
-    → Reads a b old new before now → Handled plan a b (moment before old wf finished) (moment now new wf finished) p p
-reads wf finished p plan xs a b old new before now s (ReadNot none same unread) =
-    rw (same, unread.feed, unread.calm) (record { xs = xs; led = s.led; pushes = s.pushes; one = s.one; went = went-same a (moment before old wf finished) p })
-reads wf finished p plan xs a b old new before now s (Wanted goes unread id asked same) =
-    rw (same, unread.feed, unread.calm) (wanted plan xs a (moment before old wf finished) p s goes)
-reads wf finished p plan xs a b old new before now s (ReadOnce goes written was_open id asked want most limit piece gives c takes settles_it) =
-    once wf finished p plan xs a b old new before now s goes written was_open id asked want most limit piece c gives takes settles_it
+pub reads : (wf : ℕ) (finished : Option Bool) (p : List ℕ → Type 0) (shape : Shape) (past : List Entry) (a b : Node) (old new : Option Feed) (before now : ℕ) → Since shape past a
+    → Reads a b old new before now → Handled shape a b (moment before old wf finished) (moment now new wf finished) p p
+reads wf finished p shape past a b old new before now s (ReadNot none same unread) =
+    rw (same, unread.feed, unread.calm) (record { past = past; led = s.led; pushes = s.pushes; one = s.one; went = went-same a (moment before old wf finished) p })
+reads wf finished p shape past a b old new before now s (Wanted goes unread id asked same) =
+    rw (same, unread.feed, unread.calm) (wanted shape past a (moment before old wf finished) p s goes)
+reads wf finished p shape past a b old new before now s (ReadOnce goes written was_open id asked want most limit piece gives c takes settles_it) =
+    once wf finished p shape past a b old new before now s goes written was_open id asked want most limit piece c gives takes settles_it

@@ -8,7 +8,7 @@ use Rattle.ws_value.specs.declared.ids.StreamId.{StreamId}
 use Rattle.ws_value.specs.declared.value.Plain.TheVariants.{Fault as FaultReason}
 use Rattle.ws_flow.specs.declared.plan.Ending.{Ending}
 use Rattle.ws_flow.specs.declared.plan.Ending.TheVariants.{Fine, Bad}
-use Rattle.ws_flow.specs.declared.plan.Plan.{Plan}
+use Rattle.ws_runner.specs.Shape.{Shape, count_in}
 use Rattle.ws_flow.specs.Parts.{Over}
 use Rattle.ws_flow.specs.Told.{Open, Told, told, then_told, IsShortOf}
 use Rattle.ws_flow.proofs.Told.{short_trans}
@@ -27,9 +27,9 @@ use Rattle.ws_reason_laws.specs.Reasons.{failure_of}
 use Rattle.ws_runner.specs.declared.node.Node.{Node}
 use Rattle.ws_runner.specs.Moves.{Asks, Enqueues, IsAt, PutsAll, settles_by}
 use Rattle.ws_runner.specs.Node.{stage_of}
-use Rattle.ws_runner.specs.Opening.{count_of, past}
 use Rattle.ws_runner.specs.Past.{EndedAs, IsCause, OneAtMost, Led}
-use Rattle.ws_runner.proofs.Called.{may-settle, named-longer}
+use Rattle.ws_runner.proofs.Called.{may-settle}
+use Rattle.ws_runner.proofs.Entries.{called-longer}
 use Rattle.ws_runner.proofs.Handing.{lies_to}
 use Rattle.ws_runner.proofs.Putting.{puts, asks-quietly, settle-quiet, only-then}
 use Rattle.ws_runner.proofs.Since.{MayAsk, OnlyRealm}
@@ -76,33 +76,33 @@ the-stage i items before after v at whole first last w there =
     same-stage first before last after w v (same-place (length first) (length before) (sym there.place ∙ at)) (sym there.whole ∙ whole)
 
 -- the settling of a call that isn't a close: a failure with the stage that ended badly, or of a flush, well where the stage ended fine
-pub may-answer : (plan : Plan) (xs more : List Entry) (id : HostId) (i : StreamId) (e : Ending) (call : HostCall) (n : Node) → slice_get (called (past plan xs)) id.0 ≡ Some call
+pub may-answer : (shape : Shape) (past more : List Entry) (id : HostId) (i : StreamId) (e : Ending) (call : HostCall) (n : Node) → slice_get (called past) id.0 ≡ Some call
     → ((s : StreamId) → call ≡ Close s → ⊥) → ((code place : ℕ) → e ≡ Bad code place → EndedAs (stage_of i) code place n.stages.items)
     → ((s : StreamId) → call ≡ Flush s → e ≡ Fine → (first last : List State) (w : State) → IsAt s n.stages.items first w last → w.work ≡ Over Fine)
-    → MayAsk plan (xs ++ more) n (Settle id (answer_by i e))
-may-answer plan xs more id i e call n is no_close bad fine =
-    may-settle plan (xs ++ more) n id call (named-longer plan xs more id call is) (answer_by i e) (causes id i e n bad)
+    → MayAsk shape (past ++ more) n (Settle id (answer_by i e))
+may-answer shape past more id i e call n is no_close bad fine =
+    may-settle shape (past ++ more) n id call (called-longer past more id call is) (answer_by i e) (causes id i e n bad)
     (λ c x. absurd (no_close n.sink c)) (λ s f x. fine s f (ends-fine i e x))
 
-pub record AfterAll (plan : Plan) (xs : List Entry) (m : ℕ) (chunks : List (List ℕ)) (a b : Node) : Type 0 where
+pub record AfterAll (shape : Shape) (past : List Entry) (m : ℕ) (chunks : List (List ℕ)) (a b : Node) : Type 0 where
   pub more : List Entry
-  pub led : Led plan (xs ++ more) b
+  pub led : Led shape (past ++ more) b
   pub only : OnlyRealm a b
   pub there : (t : Told (List ℕ)) → IsShortOf (lies_to t b (suc m)) (lies_to (then_told (told chunks Open) t) a (suc m))
-  pub elsewhere : (t : Told (List ℕ)) (k : ℕ) → k ≤ count_of plan → k ≢ suc m → IsShortOf (lies_to t b k) (lies_to t a k)
+  pub elsewhere : (t : Told (List ℕ)) (k : ℕ) → k ≤ count_in shape → k ≢ suc m → IsShortOf (lies_to t b k) (lies_to t a k)
   pub one : (q : ℕ) → OneAtMost q (behind_at 0 a.realm.slots).items → OneAtMost q (behind_at 0 b.realm.slots).items
   pub younger : b.stopped ≡ None → a.realm.slots.age < b.realm.slots.age
 
-pub puts-all : (plan : Plan) (xs : List Entry) (m : ℕ) (id : HostId) (i : StreamId) (p : Pushed) (a b : Node) → suc m ≤ count_of plan → i ≡ source_of (suc m) → Led plan xs a
-    → ((more : List Entry) (n : Node) → OnlyRealm a n → MayAsk plan (xs ++ more) n (Settle id (answer_by i p.ending))) → PutsAll id i p a b → AfterAll plan xs m p.chunks.items a b
-puts-all plan xs m id i p a b less at led may all =
+pub puts-all : (shape : Shape) (past : List Entry) (m : ℕ) (id : HostId) (i : StreamId) (p : Pushed) (a b : Node) → suc m ≤ count_in shape → i ≡ source_of (suc m) → Led shape past a
+    → ((more : List Entry) (n : Node) → OnlyRealm a n → MayAsk shape (past ++ more) n (Settle id (answer_by i p.ending))) → PutsAll id i p a b → AfterAll shape past m p.chunks.items a b
+puts-all shape past m id i p a b less at led may all =
     let x : Answer = answer_by i p.ending in
-    let first = puts plan m less xs p.chunks.items a all.between led (subst (λ s. Enqueues s p.chunks.items a all.between) at all.enqueued) in
-    let last = asks-quietly plan (xs ++ first.more) all.between b (Settle id x) (settle-quiet id x) first.led (may first.more all.between first.only)
+    let first = puts shape m less past p.chunks.items a all.between led (subst (λ s. Enqueues s p.chunks.items a all.between) at all.enqueued) in
+    let last = asks-quietly shape (past ++ first.more) all.between b (Settle id x) (settle-quiet id x) first.led (may first.more all.between first.only)
     (subst (λ (c : Call). Asks c all.between b) (settles-as id i p.ending) all.ended) in
     record {
       more = first.more ++ last.more;
-      led = subst (λ q. Led plan q b) (append_assoc xs first.more last.more) last.led;
+      led = subst (λ q. Led shape q b) (append_assoc past first.more last.more) last.led;
       only = only-then a all.between b first.only last.only;
       there = λ t. short_trans _ _ _ (last.lies t (suc m) less) (first.there t);
       elsewhere = λ t k l other. short_trans _ _ _ (last.lies t k l) (first.elsewhere t k l other);

@@ -6,13 +6,11 @@ use Rattle.std.proofs.lemmas.List.{length-map}
 use Rattle.std.proofs.lemmas.List.Elements.{All-nil, All-head, All-tail}
 use Rattle.ws_value.specs.declared.ids.HostId.{HostId}
 use Rattle.ws_value.specs.declared.value.Value.{Value}
-use Rattle.ws_flow.specs.declared.plan.Plan.{Plan}
+use Rattle.ws_runner.specs.Shape.{Shape, count_in}
 use Rattle.ws_flow.specs.Parts.{AtWork, Goes}
 use Rattle.ws_flow.specs.Steps.{parts_at, behind_of}
-use Rattle.ws_flow.specs.Plans.{stages_of}
 use Rattle.ws_flow.specs.Stages.{machines}
 use Rattle.ws_flow.specs.Told.{bytes_of, Mark, Open as MayCome, Told, told, then_told, IsShortOf}
-use Rattle.ws_flow.proofs.Lengths.{accepted}
 use Rattle.ws_flow.proofs.Lying.{lying_short}
 use Rattle.ws_flow.proofs.Steps.{behind_at as behind_is, goes_out}
 use Rattle.ws_flow.proofs.Told.{short_trans, short_left, before_front, before_of_short}
@@ -35,7 +33,6 @@ use Rattle.ws_runner.specs.declared.node.Output.{Output}
 use Rattle.ws_runner.specs.declared.node.Output.TheVariants as output
 use Rattle.ws_runner.specs.Moves.{with_realm, Shown, shut, nearer, written}
 use Rattle.ws_runner.specs.Node.{coming, in_bytes, is_reached, lies_in, lying, nothing_yet, parts, stages_in, works_in}
-use Rattle.ws_runner.specs.Opening.{count_of}
 use Rattle.ws_runner.specs.Past.{OneAtMost, ArePushed, HasOne, Since}
 use Rattle.ws_runner.specs.Went.{AbortGoes, StopsAt, OutputGoes, InputGoes}
 use Rattle.ws_runner.proofs.Going.{going-acts}
@@ -135,67 +132,67 @@ all-last P (x ∷ xs) ys h = all-last P xs ys (All-tail P x (xs ++ ys) h)
 then_items : (x y : Told (List ℕ)) → x.mark ≡ MayCome → (then_told x y).items ≡ x.items ++ y.items
 then_items x y e = grind arith
 
-module _ (plan : Plan) (xs : List Entry) (a : Node) (realm : SeenRealm) (since : Since plan xs a) (goes : a.stopped ≡ None) where
+module _ (shape : Shape) (past : List Entry) (a : Node) (realm : SeenRealm) (since : Since shape past a) (goes : a.stopped ≡ None) where
   abbrev was : Node
   was = with_realm realm a
 
-  pub count-works : 0 + length (works_in a) ≡ count_of plan
+  pub count-works : 0 + length (works_in a) ≡ count_in shape
   count-works =
       let e = length-map a.stages.items (λ (w : State). w.work) in
       let f = length-map a.stages.items (λ (w : State). w.stage) in
-      let g : length (stages_in a) ≡ count_of plan = ap length since.led.is_of.stages in
+      let g : length (stages_in a) ≡ count_in shape = ap length since.led.is_of.stages in
       omega arith
 
-  pub lying-is : lying a ≡ lies_in a (count_of plan)
+  pub lying-is : lying a ≡ lies_in a (count_in shape)
   lying-is = behind_is 0 (works_in a) (lies_in a) ∙ ap (lies_in a) count-works
 
   -- the chunk that lies first before the sink is below 2^25 bytes
-  pub piece-short : (piece : List ℕ) (y : Told (List ℕ)) → a.output ≡ output.Open → IsShortOf (then_told (told (piece ∷ []) MayCome) y) (lies_in a (count_of plan)) → length piece < 2 ^ 25
+  pub piece-short : (piece : List ℕ) (y : Told (List ℕ)) → a.output ≡ output.Open → IsShortOf (then_told (told (piece ∷ []) MayCome) y) (lies_in a (count_in shape)) → length piece < 2 ^ 25
   piece-short piece y is short =
-      let plan_is = accepted plan since.led.is_of.accepted in
+      let fit = since.led.is_of.fit in
       let fed = since.fed in
-      let all = (lying_short (stages_of plan) fed.came (parts a) (then_told fed.went (lying a)) plan_is.range plan_is.hex plan_is.stages fed.short fed.flows).1 in
-      let first = before_front (then_told (told (piece ∷ []) MayCome) y) (lies_in a (count_of plan)) (before_of_short _ _ short) in
+      let all = (lying_short shape.stages fed.came (parts a) (then_told fed.went (lying a)) fit.range fit.hex fit.few fed.short fed.flows).1 in
+      let first = before_front (then_told (told (piece ∷ []) MayCome) y) (lies_in a (count_in shape)) (before_of_short _ _ short) in
       let P : List ℕ → Type 0 = λ c. length c < 33554432 in
       let items : (then_told fed.went (lying a)).items ≡ fed.went.items ++ (piece ∷ (y.items ++ first.0)) =
       then_items fed.went (lying a) (fed.goes_on is) ∙ (ap (λ (z : Told (List ℕ)). fed.went.items ++ z.items) lying-is ∙ ap (λ (z : List (List ℕ)). fed.went.items ++ z) first.1) in
       All-head P piece (y.items ++ first.0) (all-last P fed.went.items (piece ∷ (y.items ++ first.0)) (subst (All P) items all))
 
-  module _ (id : HostId) (call : HostCall) (t : Told Value) (event : AfterEvent plan xs a realm (Host id call))
-      (heard : (k : ℕ) → k ≤ count_of plan → heard_at FromBytes ToSink (count_of plan) k (Host id call) ≡ only_at (count_of plan) t k) where
-    pub heard-out : (x : Told (List ℕ)) → IsShortOf (then_told (in_bytes t) (lies_to x was (count_of plan))) (lies_to x a (count_of plan))
+  module _ (id : HostId) (call : HostCall) (t : Told Value) (event : AfterEvent shape past a realm (Host id call))
+      (heard : (k : ℕ) → k ≤ count_in shape → heard_at FromBytes ToSink (count_in shape) k (Host id call) ≡ only_at (count_in shape) t k) where
+    pub heard-out : (x : Told (List ℕ)) → IsShortOf (then_told (in_bytes t) (lies_to x was (count_in shape))) (lies_to x a (count_in shape))
     heard-out x =
-        let n = count_of plan in
+        let n = count_in shape in
         subst (λ (v : Told Value). IsShortOf (then_told (in_bytes v) (lies_to x was n)) (lies_to x a n))
-        (heard n (omega arith) ∙ at-there n t) (heard-lies plan xs a realm (Host id call) event goes x n (omega arith))
+        (heard n (omega arith) ∙ at-there n t) (heard-lies shape past a realm (Host id call) event goes x n (omega arith))
 
-    unheard-in : (x : Told (List ℕ)) (k : ℕ) → k < count_of plan → IsShortOf (lies_to x was k) (lies_to x a k)
+    unheard-in : (x : Told (List ℕ)) (k : ℕ) → k < count_in shape → IsShortOf (lies_to x was k) (lies_to x a k)
     unheard-in x k less =
-        unheard-lies plan xs a realm (Host id call) event goes x k (omega arith) (ap in_bytes (heard k (omega arith) ∙ at-elsewhere (count_of plan) k t (λ e. omega arith)))
+        unheard-lies shape past a realm (Host id call) event goes x k (omega arith) (ap in_bytes (heard k (omega arith) ∙ at-elsewhere (count_in shape) k t (λ e. omega arith)))
 
     -- where there are stages, the first link isn't the last
     pub one-stages : (b : Node) (u : State) (us : List State) → a.stages.items ≡ u ∷ us → b.stages.items ≡ u ∷ us → b.ahead ≡ a.ahead
         → ((n : ℕ) → OneAtMost n (behind_at 0 realm.slots).items → OneAtMost n (behind_at 0 b.realm.slots).items) → HasOne b
     one-stages b u us whole is ahead less =
-        let some : 0 ≢ count_of plan = λ e. let f = count-works in let g = length-map a.stages.items (λ (w : State). w.work) in let h : length a.stages.items ≡ suc (length us) = ap length whole in omega arith in
+        let some : 0 ≢ count_in shape = λ e. let f = count-works in let g = length-map a.stages.items (λ (w : State). w.work) in let h : length a.stages.items ≡ suc (length us) = ap length whole in omega arith in
         one-behind u us us a b since.one whole is ahead
-        (λ n o. less n (one-quiet n (heard_at FromBytes ToSink (count_of plan) 0 (Host id call)) (behind_at 0 realm.slots) (behind_at 0 a.realm.slots)
-        (heard 0 (omega arith) ∙ at-elsewhere (count_of plan) 0 t some) (event.short 0 (omega arith)) o))
+        (λ n o. less n (one-quiet n (heard_at FromBytes ToSink (count_in shape) 0 (Host id call)) (behind_at 0 realm.slots) (behind_at 0 a.realm.slots)
+        (heard 0 (omega arith) ∙ at-elsewhere (count_in shape) 0 t some) (event.short 0 (omega arith)) o))
 
     -- a node whose host has done its part, and its realm after that
-    module _ (b : Node) (k : ℕ) (x : Option Abort) (o : Output) (after : AfterQuiet plan (xs ++ Heard ∷ []) (record was { ahead = k; abort = x; output = o }) b)
-        (went : Told (List ℕ)) (there : (z : Told (List ℕ)) → IsShortOf (then_told went (lies_to z was (count_of plan))) (lies_to z a (count_of plan))) where
+    module _ (b : Node) (k : ℕ) (x : Option Abort) (o : Output) (after : AfterQuiet shape (past ++ Heard ∷ []) (record was { ahead = k; abort = x; output = o }) b)
+        (went : Told (List ℕ)) (there : (z : Told (List ℕ)) → IsShortOf (then_told went (lies_to z was (count_in shape))) (lies_to z a (count_in shape))) where
       b-is : b ≡ record a { realm = after.only.realm; stopped = after.only.stopped; ahead = k; abort = x; output = o }
       b-is = after.only.is
 
-      lies-before : (j : ℕ) → j < count_of plan → IsShortOf (lies_in b j) (lies_in a j)
+      lies-before : (j : ℕ) → j < count_in shape → IsShortOf (lies_in b j) (lies_in a j)
       lies-before j less =
           subst (λ (z : Told (List ℕ)). IsShortOf (lies_to z b j) (lies_in a j)) (sym (ap (λ (n : Node). coming n j) b-is))
           (short_trans _ _ _ (after.lies (coming a j) j (omega arith)) (unheard-in (coming a j) j less))
 
-      lies-last : IsShortOf (then_told went (lies_in b (count_of plan))) (lies_in a (count_of plan))
+      lies-last : IsShortOf (then_told went (lies_in b (count_in shape))) (lies_in a (count_in shape))
       lies-last =
-          let n = count_of plan in
+          let n = count_in shape in
           subst (λ (z : Told (List ℕ)). IsShortOf (then_told went (lies_to z b n)) (lies_in a n)) (sym (ap (λ (m : Node). coming m n) b-is))
           (short_trans _ _ _ (short_left went (lies_to (coming a n) b n) (lies_to (coming a n) was n) (after.lies (coming a n) n (omega arith))) (there (coming a n)))
 
@@ -210,7 +207,7 @@ module _ (plan : Plan) (xs : List Entry) (a : Node) (realm : SeenRealm) (since :
 
       pub sunk : (rf : ℕ) (feed : Option Feed) (old new : Shown) (p q : List ℕ → Type 0) (gain : List ℕ) (out : Mark) → Gains p q gain → IsShortOf (told gain out) (bytes_of went)
           → (a.stages.items ≡ [] → a.ahead ≤ length gain + k) → OutputGoes a.output o gain out (shows rf feed old) (shows rf feed new) → AbortGoes a.abort x went.items gain o → HasOne b
-          → Handled plan a b (shows rf feed old) (shows rf feed new) p q
+          → Handled shape a b (shows rf feed old) (shows rf feed new) p q
       sunk rf feed old new p q gain out gained written ahead out_goes abort one =
           let taken : b.taken ≡ a.taken = ap (λ (n : Node). n.taken) b-is in
           let k_is : b.ahead ≡ k = ap (λ (n : Node). n.ahead) b-is in
@@ -218,7 +215,7 @@ module _ (plan : Plan) (xs : List Entry) (a : Node) (realm : SeenRealm) (since :
           let o_is : b.output ≡ o = ap (λ (n : Node). n.output) b-is in
           let i_is : b.input ≡ a.input = ap (λ (n : Node). n.input) b-is in
           record {
-            xs = (xs ++ Heard ∷ []) ++ after.more;
+            past = (past ++ Heard ∷ []) ++ after.more;
             led = after.led;
             pushes = λ e.
                 let f = after.older e in

@@ -3,11 +3,10 @@ use Rattle.std.proofs.Common.{◌≡◌, ◌≢◌, ◌+◌, ◌≤◌, ◌<◌,
 use Rattle.std.proofs.lemmas.List.{length-map, map-append}
 use Rattle.ws_flow.specs.declared.plan.Ending.{Ending}
 use Rattle.ws_flow.specs.declared.plan.Ending.TheVariants.{Fine, Bad}
-use Rattle.ws_flow.specs.declared.plan.Plan.{Plan}
+use Rattle.ws_runner.specs.Shape.{Shape, count_in}
 use Rattle.ws_flow.specs.declared.plan.Stage.{Stage}
 use Rattle.ws_flow.specs.Machines.{Kept, Machine}
 use Rattle.ws_flow.specs.Parts.{AtWork, Live, Over, nothing_told, Goes}
-use Rattle.ws_flow.specs.Plans.{stages_of}
 use Rattle.ws_flow.specs.Stages.{machine, machines}
 use Rattle.ws_flow.specs.Steps.{before_work, parts_at, behind_of, work_after, coming_from}
 use Rattle.ws_flow.specs.Told.{Open, Closed, Lost, Told, told, then_told, IsShortOf}
@@ -20,7 +19,6 @@ use Rattle.ws_realm.specs.declared.realm.Why.{Why}
 use Rattle.ws_runner.specs.declared.node.Input.{Input}
 use Rattle.ws_runner.specs.declared.node.Node.{Node}
 use Rattle.ws_runner.specs.Node.{coming, coming_behind, coming_by, in_bytes, lies_in, lying, lying_by, nothing_yet, parts, stages_in, works_in}
-use Rattle.ws_runner.specs.Opening.{count_of}
 use Rattle.ws_chain_laws.specs.Chain.{behind_at as lies_on}
 use Rattle.ws_runner.proofs.Handing.{lies_to}
 
@@ -120,9 +118,9 @@ goes-over ms before after e x y l h =
     (subst (λ (q : Told (List ℕ)). IsShortOf q (behind_of 0 ws x)) (sym (behind_at 0 ws y))
     (subst (λ (q : Told (List ℕ)). IsShortOf (y (0 + length ws)) q) (sym (behind_at 0 ws x)) (h (0 + length ws) (omega arith) (λ f. omega arith))))
 
--- a node of this plan, one of whose stages is at this place
-module _ (plan : Plan) (a : Node) (before after : List State) (w : State) (goes : a.stopped ≡ None) (of : stages_in a ≡ stages_of plan) (whole : a.stages.items ≡ before ++ w ∷ after) where
-  pub count-is : count_of plan ≡ length before + suc (length after)
+-- a node of this shape, one of whose stages is at this place
+module _ (shape : Shape) (a : Node) (before after : List State) (w : State) (goes : a.stopped ≡ None) (of : stages_in a ≡ shape.stages) (whole : a.stages.items ≡ before ++ w ∷ after) where
+  pub count-is : count_in shape ≡ length before + suc (length after)
   count-is = ap length (sym of) ∙ (length-map a.stages.items (λ w. w.stage) ∙ (ap length whole ∙ length-append before (w ∷ after)))
 
   -- the machines, the works before and those behind
@@ -150,7 +148,7 @@ module _ (plan : Plan) (a : Node) (before after : List State) (w : State) (goes 
     was-coming : IsLive w.work → coming a (suc (length before)) ≡ nothing_yet
     was-coming live = ap (λ (q : List State). coming_behind (length before) q) whole ∙ (coming-there before after w ∙ live-coming w.work live)
 
-    lies-same : ((t : Told (List ℕ)) (k : ℕ) → k ≤ count_of plan → k ≢ length before → k ≢ suc (length before) → IsShortOf (lies_to t b k) (lies_to t a k))
+    lies-same : ((t : Told (List ℕ)) (k : ℕ) → k ≤ count_in shape → k ≢ length before → k ≢ suc (length before) → IsShortOf (lies_to t b k) (lies_to t a k))
         → (k : ℕ) → k ≤ 0 + suc (length (works before) + length (works after)) → k ≢ length before → k ≢ suc (length before) → IsShortOf (lies_in b k) (lies_in a k)
     lies-same h k less p q =
         let n = count-is in
@@ -190,7 +188,7 @@ module _ (plan : Plan) (a : Node) (before after : List State) (w : State) (goes 
     pub record Stepped (heard : Told (List ℕ)) (chunks : List (List ℕ)) : Type 0 where
       pub there : (t : Told (List ℕ)) → IsShortOf (then_told heard (lies_to t b (length before))) (lies_to t a (length before))
       pub next : (t : Told (List ℕ)) → IsShortOf (lies_to t b (suc (length before))) (lies_to (then_told (told chunks Open) t) a (suc (length before)))
-      pub elsewhere : (t : Told (List ℕ)) (k : ℕ) → k ≤ count_of plan → k ≢ length before → k ≢ suc (length before) → IsShortOf (lies_to t b k) (lies_to t a k)
+      pub elsewhere : (t : Told (List ℕ)) (k : ℕ) → k ≤ count_in shape → k ≢ length before → k ≢ suc (length before) → IsShortOf (lies_to t b k) (lies_to t a k)
 
     -- it was pushed
     pub pushed-goes : (piece : List ℕ) (live : IsLive w.work) → let by = (machine w.stage).push (kept_in w.work) piece in
@@ -227,7 +225,7 @@ module _ (plan : Plan) (a : Node) (before after : List State) (w : State) (goes 
         (let f = length-works in omega arith) (same-length before) (same-length after) (none (suc (length before)) _) (λ k z less p q. none k (lies_in a k)))
 
     -- nor is any asked where that at this place is over
-    pub over-goes : (IsLive w.work → ⊥) → v.work ≡ w.work → ((k : ℕ) → k ≤ count_of plan → k ≢ length before → IsShortOf (lies_in b k) (lies_in a k))
+    pub over-goes : (IsLive w.work → ⊥) → v.work ≡ w.work → ((k : ℕ) → k ≤ count_in shape → k ≢ length before → IsShortOf (lies_in b k) (lies_in a k))
         → Goes (machines (stages_in a)) nothing_yet (parts a) (lying a) (parts b) (lying b)
     over-goes not_live is h =
         let over = over-is w.work not_live in

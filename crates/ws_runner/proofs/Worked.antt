@@ -10,7 +10,7 @@ use Rattle.ws_runner.proofs.Working.{works}
 use Rattle.std.specs.Prelude.{None}
 
 pub works-driven : (a b : Node) → Driven a → Works a b → Driven b
-works-driven a b d w = driven-handled d.plan d.xs a b (moment 0 None 0 None) (moment 0 None 0 None) (λ _. Unit {0}) (λ _. Unit {0}) d.since (works d.plan d.xs a b (moment 0 None 0 None) (λ _. Unit {0}) d.since w)
+works-driven a b d w = driven-handled d.shape d.past a b (moment 0 None 0 None) (moment 0 None 0 None) (λ _. Unit {0}) (λ _. Unit {0}) d.since (works d.shape d.past a b (moment 0 None 0 None) (λ _. Unit {0}) d.since w)
 
 pub works-went : (a b : Node) (m : Moment) (p : List ℕ → Type 0) → Driven a → Works a b → Went a b m m p p
-works-went a b m p d w = (works d.plan d.xs a b m p d.since w).went
+works-went a b m p d w = (works d.shape d.past a b m p d.since w).went

@@ -1,7 +1,7 @@
 -- A node goes on as its realm performs jobs.
 use Rattle.std.proofs.Common.{◌≡◌, ◌≤◌, ◌<◌, ℕ, List, ◌++◌, Option, Some, None, refl, sym, ap, ◌∙◌, subst, arith}
 use Rattle.std.proofs.lemmas.List.Elements.{All-weaker}
-use Rattle.ws_flow.specs.declared.plan.Plan.{Plan}
+use Rattle.ws_runner.specs.Shape.{Shape, count_in}
 use Rattle.ws_io.specs.Moment.{Moment}
 use Rattle.ws_io.proofs.Flow.{Gains-nothing}
 use Rattle.ws_realm.specs.declared.realm.Why.{Why}
@@ -29,14 +29,14 @@ one-stays a b only =
     subst (λ (n : Node). ((m : ℕ) → OneAtMost m (behind_at 0 a.realm.slots).items → OneAtMost m (behind_at 0 n.realm.slots).items) → HasOne a → HasOne n) (sym only.is)
     (λ keeps one may. keeps a.ahead (one may))
 
-pub works : (plan : Plan) (xs : List Entry) (a b : Node) (m : Moment) (p : List ℕ → Type 0) → Since plan xs a → Works a b → Handled plan a b m m p p
-works plan xs a b m p since w =
-    let after = since-works plan xs a b since.led w in
+pub works : (shape : Shape) (past : List Entry) (a b : Node) (m : Moment) (p : List ℕ → Type 0) → Since shape past a → Works a b → Handled shape a b m m p p
+works shape past a b m p since w =
+    let after = since-works shape past a b since.led w in
     record {
-      xs = xs ++ after.more;
+      past = past ++ after.more;
       led = after.led;
       pushes = λ goes. subst (λ (n : Node). ArePushed b.realm.slots.age n.stages.items) (sym after.only.is)
           (pushed-longer a.realm.slots.age b.realm.slots.age a.stages.items after.older (since.pushes (goes-before a b w goes a.stopped refl)));
       one = one-stays a b after.only after.one since.one;
-      went = went-rests plan a b m p p (Gains-nothing p) w.stays since.led.is_of.stages after.only after.short;
+      went = went-rests shape a b m p p (Gains-nothing p) w.stays since.led.is_of.stages after.only after.short;
     }

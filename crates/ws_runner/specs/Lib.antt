@@ -6,5 +6,7 @@ pub mod Moves
 pub mod Node
 pub mod Opening
 pub mod Past
+pub mod Ran
+pub mod Shape
 pub mod Turns
 pub mod Went

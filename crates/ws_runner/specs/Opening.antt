@@ -9,8 +9,8 @@ use Rattle.ws_stages.specs.State.{State, begun}
 use Rattle.ws_steps.specs.declared.calls.Call.{Call}
 use Rattle.ws_steps.specs.declared.calls.Reply.{Reply}
 use Rattle.ws_steps.specs.declared.calls.Reply.TheVariants.{Promise}
-use Rattle.ws_steps.specs.Run.{Entry, run, reply_to, after_call}
-use Rattle.ws_steps.specs.Slots.{Slots, empty}
+use Rattle.ws_steps.specs.Run.{Entry, reply_to, after_call}
+use Rattle.ws_steps.specs.Slots.{Slots}
 use Rattle.ws_chain_laws.specs.Opening.{piping, signal_of, opened, made}
 use Rattle.ws_chain_laws.specs.Outcomes.{past_of}
 use Rattle.ws_realm.specs.Seen.{SeenRealm}
@@ -38,13 +38,9 @@ abbrev pub IsPromise : Reply → Type 0
 IsPromise (Promise p) = Unit {0}
 IsPromise _ = ⊥
 
--- the realm to which the calls of the opening lead, and then these entries
-abbrev pub led_by : Plan → List Entry → Slots
-led_by plan xs = run (past_of FromBytes ToSink (count_of plan) (is_aborted plan) xs) empty
-
--- all that led there
-abbrev pub past : Plan → List Entry → List Entry
-past plan xs = past_of FromBytes ToSink (count_of plan) (is_aborted plan) xs
+-- the calls that open the realm
+abbrev pub opening_by : Plan → List Entry
+opening_by plan = past_of FromBytes ToSink (count_of plan) (is_aborted plan) []
 
 -- the promise of the last pipe, and those of the pipes before, each by the reply that named it
 

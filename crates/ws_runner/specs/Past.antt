@@ -1,4 +1,5 @@
--- What holds of a node between turns: its realm was led there by calls that leave its links alone, and by what its host knows.
+-- What holds of a node between turns: its realm was led there by calls that leave its links alone, and by what its host knows. None of it but `IsOf` and a new
+-- node speaks of a plan.
 use Rattle.std.specs.Prelude.{◌≡◌, ◌≢◌, ◌+◌, ◌<◌, ◌≤◌, ◌^◌, ℕ, Bool, true, not, ◌&&◌, List, [], ◌∷◌, ◌++◌, length, All, Option, Some, None, slice_get, option_map, nat_abs}
 use Rattle.ws_value.specs.declared.fault.Fault.{Fault}
 use Rattle.ws_value.specs.declared.fault.Fault.TheVariants.{TypeError, RangeError, DataClone, User, Read, Write, Stage, TooMuch, Abort, NoMemory}
@@ -10,17 +11,18 @@ use Rattle.ws_value.specs.declared.value.Value.{Value}
 use Rattle.ws_value.specs.declared.value.Value.TheVariants.{Plain as PlainValue, Bytes}
 use Rattle.ws_flow.specs.declared.plan.Ending.TheVariants.{Fine, Bad}
 use Rattle.ws_flow.specs.declared.plan.Plan.{Plan}
+use Rattle.ws_flow.specs.declared.plan.Stage.{Stage as PlanStage}
 use Rattle.ws_flow.specs.Parts.{Over, Flows, fresh}
 use Rattle.ws_flow.specs.Plans.{stages_of}
 use Rattle.ws_flow.specs.Stages.{machines}
 use Rattle.ws_flow.specs.Told.{Open as MayCome, Told, then_told}
 use Rattle.ws_stages.specs.State.{State, is_live}
 use Rattle.ws_steps.specs.declared.calls.HostCall.TheVariants.{Pull, Close, Flush}
-use Rattle.ws_steps.specs.Run.{Entry, Called}
+use Rattle.ws_steps.specs.Run.{Entry, Called, run}
+use Rattle.ws_steps.specs.Slots.{empty}
 use Rattle.ws_host_laws.specs.HostCalls.{called, settles_well}
 use Rattle.ws_chain_laws.specs.Chain.{dest_of, behind_at}
 use Rattle.ws_chain_laws.specs.Opening.{signal_of}
-use Rattle.ws_chain_laws.specs.Runs.{AreNodes}
 use Rattle.ws_realm.specs.Seen.{oldest}
 use Rattle.ws_realm.specs.declared.realm.Why.TheVariants.{Spent}
 use Rattle.ws_reason_laws.specs.Reasons.{failures}
@@ -32,7 +34,9 @@ use Rattle.ws_runner.specs.declared.node.Output.{Output}
 use Rattle.ws_runner.specs.declared.node.Output.TheVariants as output
 use Rattle.ws_runner.specs.Moves.{IsAt, is_writable}
 use Rattle.ws_runner.specs.Node.{stages_in, nothing_yet, parts, lying, is_reached}
-use Rattle.ws_runner.specs.Opening.{IsAccepted, count_of, is_aborted, IsAnswered, AreAnsweredOf, led_by, past, all_begun, abort_of}
+use Rattle.ws_runner.specs.Opening.{IsAccepted, count_of, is_aborted, IsAnswered, AreAnsweredOf, opening_by, all_begun, abort_of}
+use Rattle.ws_runner.specs.Ran.{HasRun, IsPiped}
+use Rattle.ws_runner.specs.Shape.{AreFit, Shape, count_in}
 
 -- The reasons with which a node fails something: each has its cause in what became of the input, of the output or of a stage, or in an abort that was
 -- reached
@@ -121,16 +125,23 @@ pub record IsOf (plan : Plan) (n : Node) : Type 0 where
 abbrev pub AbortsReached : Node → Type 0
 AbortsReached n = n.output ≡ output.Aborted → is_reached n.abort ≡ true
 
--- a node of a plan to which this led behind the opening of its realm
-pub record Led (plan : Plan) (xs : List Entry) (n : Node) : Type 0 where
-  pub is_of : IsOf plan n
-  pub slots : n.realm.slots ≡ led_by plan xs
-  pub calls : AreNodes xs
-  pub answered : IsAnswered plan n.pipe
-  pub failed : All (IsCause n) (failures xs)
-  pub closes : ClosesFinished n.sink (past plan xs) n.output
-  pub flushes : FlushesFine (past plan xs) n.stages.items
-  pub asked : IsPull (past plan xs) n.asked
+-- the stages, the sink, the limit and the signal of a node are those of its shape
+pub record IsShaped (shape : Shape) (n : Node) : Type 0 where
+  pub fit : AreFit shape.stages
+  pub stages : stages_in n ≡ shape.stages
+  pub sink : n.sink ≡ dest_of (count_in shape)
+  pub most : n.most ≡ shape.most
+  pub signal : option_map (λ a. a.signal) n.abort ≡ signal_of shape.aborted
+
+-- a node of this shape to which this led
+pub record Led (shape : Shape) (past : List Entry) (n : Node) : Type 0 where
+  pub is_of : IsShaped shape n
+  pub ran : HasRun shape past n.realm.slots
+  pub piped : IsPiped (count_in shape) past n.pipe
+  pub failed : All (IsCause n) (failures past)
+  pub closes : ClosesFinished n.sink past n.output
+  pub flushes : FlushesFine past n.stages.items
+  pub asked : IsPull past n.asked
   pub aborts : AbortsReached n
   pub age : n.realm.slots.age ≤ oldest
   pub counts : HasCounts n
@@ -148,25 +159,25 @@ HasOne n = may_have n.stages.items n.output n.abort ≡ true → OneAtMost n.ahe
 
 -- Since the node was made these pieces came in, none of more than 4,096 bytes, and went through the stages to what went out and what lies in it. So no
 -- chunk that lies in it reaches 2^25 bytes
-pub record IsFed (plan : Plan) (n : Node) : Type 0 where
+pub record IsFed (stages : List PlanStage) (n : Node) : Type 0 where
   pub came : Told (List ℕ)
   pub went : Told (List ℕ)
   pub short : All (λ c. length c ≤ 4096) came.items
   -- while the output may be written, more may go out
   pub goes_on : n.output ≡ output.Open → went.mark ≡ MayCome
-  pub flows : Flows (machines (stages_of plan)) came (parts n) (then_told went (lying n))
+  pub flows : Flows (machines stages) came (parts n) (then_told went (lying n))
 
-pub record Since (plan : Plan) (xs : List Entry) (n : Node) : Type 0 where
-  pub led : Led plan xs n
+pub record Since (shape : Shape) (past : List Entry) (n : Node) : Type 0 where
+  pub led : Led shape past n
   pub pushes : n.stopped ≡ None → ArePushed n.realm.slots.age n.stages.items
   pub one : HasOne n
-  pub fed : IsFed plan n
+  pub fed : IsFed shape.stages n
 
 -- a node between turns
 pub record Driven (n : Node) : Type 0 where
-  pub plan : Plan
-  pub xs : List Entry
-  pub since : Since plan xs n
+  pub shape : Shape
+  pub past : List Entry
+  pub since : Since shape past n
 
 -- a new node: nothing was read or written, and nothing lies in it
 pub record IsNew (plan : Plan) (n : Node) : Type 0 where
@@ -182,7 +193,7 @@ pub record IsNew (plan : Plan) (n : Node) : Type 0 where
 
 -- as it is made: the calls that open its realm were performed
 pub record IsFresh (plan : Plan) (n : Node) : Type 0 where
-  pub slots : n.realm.slots ≡ led_by plan []
+  pub slots : n.realm.slots ≡ run (opening_by plan) empty
   pub stages : n.stages.items ≡ all_begun (stages_of plan)
   pub sink : n.sink ≡ dest_of (count_of plan)
   pub answered : IsAnswered plan n.pipe

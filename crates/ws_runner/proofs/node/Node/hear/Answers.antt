@@ -16,48 +16,48 @@ returns-then-is_some-clause-went g c =
 
 pub returns-in_default-clause-driven : goal.returns-in_default-clause-driven
 returns-in_default-clause-driven g c =
-    driven-handled c.requires.plan c.requires.xs c.args.self.now (with_realm c.next_event.new.self c.args.self.now) _ _ (g.K.Sink.got c.args.output.now) (g.K.Sink.got c.args.output.now) c.requires.since
-    (hears-none c.requires.plan c.requires.xs c.args.self.now c.next_event.new.self
+    driven-handled c.requires.shape c.requires.past c.args.self.now (with_realm c.next_event.new.self c.args.self.now) _ _ (g.K.Sink.got c.args.output.now) (g.K.Sink.got c.args.output.now) c.requires.since
+    (hears-none c.requires.shape c.requires.past c.args.self.now c.next_event.new.self
     (moment (g.S.Source.faults c.args.input.now) (g.S.Source.feed c.args.input.now) (g.K.Sink.faults c.args.output.now) (g.K.Sink.finished c.args.output.now)) (g.K.Sink.got c.args.output.now)
     c.requires.since (is_none_so c.args.self.now.stopped (sym c.is_some.ensures ∙ c.if-is_some.false)) (sym c.in_default.ensures.event) c.next_event.ensures.slots)
 
 pub returns-in_default-clause-went : goal.returns-in_default-clause-went
 returns-in_default-clause-went g c =
-    (hears-none c.requires.plan c.requires.xs c.args.self.now c.next_event.new.self
+    (hears-none c.requires.shape c.requires.past c.args.self.now c.next_event.new.self
     (moment (g.S.Source.faults c.args.input.now) (g.S.Source.feed c.args.input.now) (g.K.Sink.faults c.args.output.now) (g.K.Sink.finished c.args.output.now)) (g.K.Sink.got c.args.output.now)
     c.requires.since (is_none_so c.args.self.now.stopped (sym c.is_some.ensures ∙ c.if-is_some.false)) (sym c.in_default.ensures.event) c.next_event.ensures.slots).went
 
 pub hear_of-requires : goal.hear_of-requires
 hear_of-requires g c =
-    may-hear c.requires.plan c.requires.xs c.args.self.now c.next_event.new.self c.in-Some.event c.requires.since (is_none_so c.args.self.now.stopped (sym c.is_some.ensures ∙ c.if-is_some.false))
+    may-hear c.requires.shape c.requires.past c.args.self.now c.next_event.new.self c.in-Some.event c.requires.since (is_none_so c.args.self.now.stopped (sym c.is_some.ensures ∙ c.if-is_some.false))
     (sym c.in-Some.ensures.event) c.next_event.ensures.slots
 
 pub read-requires : goal.read-requires
 read-requires g c =
-    (hears (g.S.Source.faults c.args.input.now) (g.S.Source.feed c.args.input.now) (g.K.Sink.got c.args.output.now) (g.K.Sink.got c.hear_of.new.output) c.requires.plan c.requires.xs c.args.self.now
+    (hears (g.S.Source.faults c.args.input.now) (g.S.Source.feed c.args.input.now) (g.K.Sink.got c.args.output.now) (g.K.Sink.got c.hear_of.new.output) c.requires.shape c.requires.past c.args.self.now
     c.next_event.new.self c.in-Some.event c.hear_of.new.self (record { faults = g.K.Sink.faults c.args.output.now; finished = g.K.Sink.finished c.args.output.now })
     (record { faults = g.K.Sink.faults c.hear_of.new.output; finished = g.K.Sink.finished c.hear_of.new.output }) c.requires.since
     (is_none_so c.args.self.now.stopped (sym c.is_some.ensures ∙ c.if-is_some.false)) (sym c.in-Some.ensures.event) c.next_event.ensures.slots c.hear_of.ensures).led.counts
 
 pub returns-clause-driven : goal.returns-clause-driven
 returns-clause-driven g c =
-    let h = hears (g.S.Source.faults c.args.input.now) (g.S.Source.feed c.args.input.now) (g.K.Sink.got c.args.output.now) (g.K.Sink.got c.hear_of.new.output) c.requires.plan c.requires.xs c.args.self.now
+    let h = hears (g.S.Source.faults c.args.input.now) (g.S.Source.feed c.args.input.now) (g.K.Sink.got c.args.output.now) (g.K.Sink.got c.hear_of.new.output) c.requires.shape c.requires.past c.args.self.now
     c.next_event.new.self c.in-Some.event c.hear_of.new.self (record { faults = g.K.Sink.faults c.args.output.now; finished = g.K.Sink.finished c.args.output.now })
     (record { faults = g.K.Sink.faults c.hear_of.new.output; finished = g.K.Sink.finished c.hear_of.new.output }) c.requires.since
     (is_none_so c.args.self.now.stopped (sym c.is_some.ensures ∙ c.if-is_some.false)) (sym c.in-Some.ensures.event) c.next_event.ensures.slots c.hear_of.ensures in
-    let since = since-handled c.requires.plan c.requires.xs c.args.self.now c.hear_of.new.self _ _ _ _ c.requires.since h in
-    driven-handled c.requires.plan h.xs c.hear_of.new.self c.read.new.self _ _ _ _ since
-    (reads (g.K.Sink.faults c.hear_of.new.output) (g.K.Sink.finished c.hear_of.new.output) (g.K.Sink.got c.hear_of.new.output) c.requires.plan h.xs c.hear_of.new.self c.read.new.self
+    let since = since-handled c.requires.shape c.requires.past c.args.self.now c.hear_of.new.self _ _ _ _ c.requires.since h in
+    driven-handled c.requires.shape h.past c.hear_of.new.self c.read.new.self _ _ _ _ since
+    (reads (g.K.Sink.faults c.hear_of.new.output) (g.K.Sink.finished c.hear_of.new.output) (g.K.Sink.got c.hear_of.new.output) c.requires.shape h.past c.hear_of.new.self c.read.new.self
     (g.S.Source.feed c.args.input.now) (g.S.Source.feed c.read.new.input) (g.S.Source.faults c.args.input.now) (g.S.Source.faults c.read.new.input) since c.read.ensures)
 
 pub returns-clause-went : goal.returns-clause-went
 returns-clause-went g c =
-    let h = hears (g.S.Source.faults c.args.input.now) (g.S.Source.feed c.args.input.now) (g.K.Sink.got c.args.output.now) (g.K.Sink.got c.hear_of.new.output) c.requires.plan c.requires.xs c.args.self.now
+    let h = hears (g.S.Source.faults c.args.input.now) (g.S.Source.feed c.args.input.now) (g.K.Sink.got c.args.output.now) (g.K.Sink.got c.hear_of.new.output) c.requires.shape c.requires.past c.args.self.now
     c.next_event.new.self c.in-Some.event c.hear_of.new.self (record { faults = g.K.Sink.faults c.args.output.now; finished = g.K.Sink.finished c.args.output.now })
     (record { faults = g.K.Sink.faults c.hear_of.new.output; finished = g.K.Sink.finished c.hear_of.new.output }) c.requires.since
     (is_none_so c.args.self.now.stopped (sym c.is_some.ensures ∙ c.if-is_some.false)) (sym c.in-Some.ensures.event) c.next_event.ensures.slots c.hear_of.ensures in
-    let since = since-handled c.requires.plan c.requires.xs c.args.self.now c.hear_of.new.self _ _ _ _ c.requires.since h in
-    let r = reads (g.K.Sink.faults c.hear_of.new.output) (g.K.Sink.finished c.hear_of.new.output) (g.K.Sink.got c.hear_of.new.output) c.requires.plan h.xs c.hear_of.new.self c.read.new.self
+    let since = since-handled c.requires.shape c.requires.past c.args.self.now c.hear_of.new.self _ _ _ _ c.requires.since h in
+    let r = reads (g.K.Sink.faults c.hear_of.new.output) (g.K.Sink.finished c.hear_of.new.output) (g.K.Sink.got c.hear_of.new.output) c.requires.shape h.past c.hear_of.new.self c.read.new.self
     (g.S.Source.feed c.args.input.now) (g.S.Source.feed c.read.new.input) (g.S.Source.faults c.args.input.now) (g.S.Source.faults c.read.new.input) since c.read.ensures in
     went-then c.args.self.now c.hear_of.new.self c.read.new.self _ _ _ _ _ _ h.went r.went
 

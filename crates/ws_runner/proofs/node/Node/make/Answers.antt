@@ -5,8 +5,7 @@ use Rattle.ws_flow.specs.Stages.{is_in_range}
 use Rattle.ws_chain_laws.specs.Chain.{dest_of}
 use Rattle.ws_realm.specs.Seen.{SeenRealm}
 use Rattle.ws_runner.specs.Opening.{all_begun, count_of}
-use Rattle.ws_runner.proofs.Ending.{few-streams}
-use Rattle.ws_runner.proofs.MakingNodes.{IsMade, are-answered, count-is, count-small, in-range, is-answered, last-promise, led-is, made-none, made-some, piped-is, pipes-can, placed-count, streams-made, taken-from}
+use Rattle.ws_runner.proofs.MakingNodes.{IsMade, are-answered, count-is, count-small, few-streams, in-range, is-answered, last-promise, led-is, made-none, made-some, piped-is, pipes-can, placed-count, streams-made, taken-from}
 use Rattle.ws_runner.proofs.node.Node.make.Goals as goal
 use Rattle.ws_runner.proofs.node.Node.make.Goals.{in-Some+in_ok-make_abort-in-Some, in-None}
 

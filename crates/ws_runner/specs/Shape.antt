@@ -1,0 +1,35 @@
+-- The shape of a node: what stays of it from its making on. What is shown of a node between turns is said of its shape and of all that led to it; only its
+-- making knows of a plan.
+use Rattle.std.specs.Prelude.{◌≡◌, ◌≤◌, ℕ, Bool, true, List, length, nat_abs}
+use Rattle.std.specs.List.{count_by, list_all}
+use Rattle.ws_flow.specs.declared.plan.Plan.{Plan}
+use Rattle.ws_flow.specs.declared.plan.Stage.{Stage}
+use Rattle.ws_flow.specs.Plans.{is_hex, stages_of}
+use Rattle.ws_flow.specs.Stages.{is_in_range}
+use Rattle.ws_wire_laws.specs.Wire.{Joint}
+use Rattle.ws_chain_laws.specs.Chain.{FromBytes, ToSink, links_of}
+use Rattle.ws_runner.specs.Opening.{is_aborted}
+
+pub record Shape : Type 0 where
+  pub stages : List Stage
+  -- whether the last pipe has a signal
+  pub aborted : Bool
+  -- the most bytes that the run may take
+  pub most : ℕ
+
+-- how many transform streams it has, and the links of its realm in order
+abbrev pub count_in : Shape → ℕ
+count_in shape = length shape.stages
+
+abbrev pub links_in : Shape → List Joint
+links_in shape = links_of FromBytes ToSink (count_in shape)
+
+-- the shape of the one node of a plan
+abbrev pub shape_of : Plan → Shape
+shape_of plan = record { stages = stages_of plan; aborted = is_aborted plan; most = nat_abs plan.max_input }
+
+-- stages as a plan may have them that isn't refused: so what lies between them stays short
+pub record AreFit (stages : List Stage) : Type 0 where
+  pub few : length stages ≤ 16
+  pub range : list_all is_in_range stages ≡ true
+  pub hex : count_by is_hex stages ≤ 4
