@@ -10,7 +10,7 @@ use Rattle.ws_value.specs.declared.ids.StreamId.{StreamId}
 use Rattle.ws_value.specs.declared.value.Plain.TheVariants.{Fault as FaultReason}
 use Rattle.ws_value.specs.declared.value.Value.{Value}
 use Rattle.ws_value.specs.declared.value.Value.TheVariants.{Bytes}
-use Rattle.ws_runner.specs.Shape.{Shape, count_in}
+use Rattle.ws_runner.specs.Shape.{Shape, count_in, enters_in, hears_in}
 use Rattle.ws_flow.specs.Parts.{Goes}
 use Rattle.ws_flow.specs.Stages.{machines}
 use Rattle.ws_flow.specs.Told.{bytes_of, Open as MayCome, Closed, Lost, Told, told, then_told, IsShortOf}
@@ -28,8 +28,8 @@ use Rattle.ws_steps.specs.declared.calls.Event.TheVariants.{Host}
 use Rattle.ws_steps.specs.declared.calls.HostCall.{HostCall}
 use Rattle.ws_steps.specs.declared.calls.HostCall.TheVariants.{Pull, Write, Close, Flush}
 use Rattle.ws_steps.specs.Run.{Entry, Heard}
-use Rattle.ws_chain_laws.specs.Chain.{FromBytes, ToSink, behind_at, call_enters, heard_at}
-use Rattle.ws_chain_laws.specs.Nodes.{only_at}
+use Rattle.ws_chain_laws.specs.Chain.{Target, behind_at}
+use Rattle.ws_chain_laws.specs.Nodes.{by_sink, only_at}
 use Rattle.ws_chain_laws.proofs.Nodes.{each_event_is_heard_at_one_link, each_nodes_call_brings}
 use Rattle.ws_host_laws.specs.HostCalls.{IsItsCall, called}
 use Rattle.ws_link_laws.specs.Link.{silence}
@@ -120,8 +120,8 @@ drawn : (count : ℕ) (x : Option Abort) (n c : Node) → n.abort ≡ x → draw
 drawn count None n c e d = Same (d ∙ ap (λ (z : Option Abort). record n { abort = z }) e)
 drawn count (Some y) n c e d = drawn-near y count (y.left - count) n c refl d
 
-trigger-quiet : (y : Abort) (k : ℕ) → call_enters FromBytes k (triggers y) ≡ silence
-trigger-quiet y k = (each_nodes_call_brings FromBytes k).trigger y.signal (FaultReason AbortFault)
+trigger-quiet : (shape : Shape) (y : Abort) (k : ℕ) → enters_in shape k (triggers y) ≡ silence
+trigger-quiet shape y k = (each_nodes_call_brings shape.origin k).trigger y.signal (FaultReason AbortFault)
 
 may-trigger : (shape : Shape) (past : List Entry) (n : Node) (y : Abort) → is_reached n.abort ≡ true → MayAsk shape past n (triggers y)
 may-trigger shape past n y reached =
@@ -136,12 +136,12 @@ module _ (shape : Shape) (past : List Entry) (id : HostId) (call : HostCall) (is
   -- a call is settled well; and badly, with a cause
   well : (n b : Node) → Led shape past n → (call ≡ Close n.sink → n.output ≡ output.Finished) → ((s : StreamId) → call ≡ Flush s → ⊥) → Asks (settles id) n b → AfterQuiet shape past n b
   well n b led close flush asks =
-      asks-quietly shape past n b (settles id) (settle-quiet id AnswerOk) led (may-settle shape past n id call is AnswerOk (All-nil (IsCause n)) (λ c x. close c) (λ s f. absurd (flush s f))) asks
+      asks-quietly shape past n b (settles id) (settle-quiet shape id AnswerOk) led (may-settle shape past n id call is AnswerOk (All-nil (IsCause n)) (λ c x. close c) (λ s f. absurd (flush s f))) asks
 
   badly : (n b : Node) → Led shape past n → n.output ≢ output.Open → (n.output ≡ output.Aborted → is_reached n.abort ≡ true) → Asks (fails id (fault_of n.output)) n b → AfterQuiet shape past n b
   badly n b led closed reached asks =
       let x = AnswerFail (FaultReason (fault_of n.output)) in
-      asks-quietly shape past n b (Settle id x) (settle-quiet id x) led
+      asks-quietly shape past n b (Settle id x) (settle-quiet shape id x) led
       (may-settle shape past n id call is x (All-cons (IsCause n) (FaultReason (fault_of n.output)) [] (caused n closed reached) (All-nil (IsCause n))) (λ c e. absurd (cc)) (λ s f e. absurd (cc))) asks
 
 module _ (rf : ℕ) (feed : Option Feed) (p q : List ℕ → Type 0) (shape : Shape) (past : List Entry) (a : Node) (realm : SeenRealm) (id : HostId) (b : Node) (old new : Shown) (since : Since shape past a)
@@ -152,154 +152,160 @@ module _ (rf : ℕ) (feed : Option Feed) (p q : List ℕ → Type 0) (shape : Sh
   abbrev further : List Entry
   further = past ++ Heard ∷ []
 
-  -- of the sink
-  module _ (call : HostCall) (t : Told Value) (event : AfterEvent shape past a realm (Host id call))
-      (heard : (k : ℕ) → k ≤ count_in shape → heard_at FromBytes ToSink (count_in shape) k (Host id call) ≡ only_at (count_in shape) t k) where
-    -- once the output isn't open, nothing is said of what is behind the host without stages
-    one-shut : (k : ℕ) (x : Option Abort) (o : Output) (after : AfterQuiet shape further (record was { ahead = k; abort = x; output = o }) b) → o ≢ output.Open → k ≡ a.ahead → HasOne b
-    one-shut k x o after closed same = by a.stages.items refl where
-      b-stages : b.stages.items ≡ a.stages.items
-      b-stages = ap (λ (n : Node). n.stages.items) after.only.is
+  -- of the sink, to which the last link goes
+  module _ (sink_link : ℕ) (is_last : sink_link ≡ count_in shape) where
+    module _ (call : HostCall) (t : Told Value) (event : AfterEvent shape past a realm (Host id call))
+        (heard : (k : ℕ) → k ≤ count_in shape → hears_in shape k (Host id call) ≡ only_at sink_link t k) where
+      -- once the output isn't open, nothing is said of what is behind the host without stages
+      one-shut : (k : ℕ) (x : Option Abort) (o : Output) (after : AfterQuiet shape further (record was { ahead = k; abort = x; output = o }) b) → o ≢ output.Open → k ≡ a.ahead → HasOne b
+      one-shut k x o after closed same = by a.stages.items refl where
+        b-stages : b.stages.items ≡ a.stages.items
+        b-stages = ap (λ (n : Node). n.stages.items) after.only.is
 
-      by : (ws : List State) → a.stages.items ≡ ws → HasOne b
-      by [] e = λ h.
-          let f : may_have [] b.output b.abort ≡ true = subst (λ (s : List State). may_have s b.output b.abort ≡ true) (b-stages ∙ e) h in
-          absurd (closed (sym (ap (λ (n : Node). n.output) after.only.is) ∙ writable-open b.output ((and_parts (is_writable b.output) _ f).0)))
-      by (u ∷ us) e = one-stages shape past a realm since goes id call t event heard b u us e (b-stages ∙ e) (ap (λ (n : Node). n.ahead) after.only.is ∙ same) (λ n o. after.one n o)
+        by : (ws : List State) → a.stages.items ≡ ws → HasOne b
+        by [] e = λ h.
+            let f : may_have [] b.output b.abort ≡ true = subst (λ (s : List State). may_have s b.output b.abort ≡ true) (b-stages ∙ e) h in
+            absurd (closed (sym (ap (λ (n : Node). n.output) after.only.is) ∙ writable-open b.output ((and_parts (is_writable b.output) _ f).0)))
+        by (u ∷ us) e = one-stages shape past a realm since goes sink_link is_last id call t event heard b u us e (b-stages ∙ e) (ap (λ (n : Node). n.ahead) after.only.is ∙ same) (λ n o. after.one n o)
 
-    lost-out : (x : Told (List ℕ)) → IsShortOf (told [] Lost) (lies_to x a (count_in shape))
-    lost-out x = ((lies_to x a (count_in shape)).items, refl)
+      lost-out : (x : Told (List ℕ)) → IsShortOf (told [] Lost) (lies_to x a sink_link)
+      lost-out x = ((lies_to x a sink_link).items, refl)
 
-    -- what was asked of an output that takes no more is lost
-    refused : a.output ≢ output.Open → Untouched old new p q → Fails id was b → Handled shape a b (shows rf feed old) (shows rf feed new) p q
-    refused shut_already untouched asks =
-        let o = shut a.output in
-        let same = shut-stays a.output shut_already in
-        let led = led-output shape further was o (λ h. same) (λ e. since.led.aborts (sym same ∙ e)) event.led in
-        let after = badly shape further id call event.its (record was { output = o }) b led (shut-shut a.output) (λ e. since.led.aborts (sym same ∙ e)) asks in
-        rw untouched.shown
-        (sunk shape past a realm since goes id call t event heard b a.ahead a.abort o after (told [] Lost) lost-out rf feed old old p q [] Lost untouched.gained ([], refl) (λ e. omega arith)
-        (subst (λ (z : Output). OutputGoes a.output z [] Lost (shows rf feed old) (shows rf feed old)) (sym same) (output-alone a.output [] Lost (shows rf feed old) shut_already refl))
-        (abort-same a.abort [] o) (one-shut a.ahead a.abort o after (shut-shut a.output) refl))
+      -- what was asked of an output that takes no more is lost
+      refused : a.output ≢ output.Open → Untouched old new p q → Fails id was b → Handled shape a b (shows rf feed old) (shows rf feed new) p q
+      refused shut_already untouched asks =
+          let o = shut a.output in
+          let same = shut-stays a.output shut_already in
+          let led = led-output shape further was o (λ h. same) (λ e. since.led.aborts (sym same ∙ e)) event.led in
+          let after = badly shape further id call event.its (record was { output = o }) b led (shut-shut a.output) (λ e. since.led.aborts (sym same ∙ e)) asks in
+          rw untouched.shown
+          (sunk shape past a realm since goes sink_link is_last id call t event heard b a.ahead a.abort o after (told [] Lost) lost-out rf feed old old p q [] Lost untouched.gained ([], refl) (λ e. omega arith)
+          (subst (λ (z : Output). OutputGoes a.output z [] Lost (shows rf feed old) (shows rf feed old)) (sym same) (output-alone a.output [] Lost (shows rf feed old) shut_already refl))
+          (abort-same a.abort [] o) (one-shut a.ahead a.abort o after (shut-shut a.output) refl))
 
-    -- it fails as it is asked for this, of which some was written
-    broken : (went : Told (List ℕ)) (gain : List ℕ) → a.output ≡ output.Open → Gains p q gain → Rose old.faults new.faults → KeepsTold old.finished new.finished → Fails id was b
-        → ((x : Told (List ℕ)) → IsShortOf (then_told went (lies_to x was (count_in shape))) (lies_to x a (count_in shape))) → IsShortOf (told gain Lost) (bytes_of went)
-        → (a.stages.items ≡ [] → a.ahead ≤ length gain + a.ahead) → AbortGoes a.abort a.abort went.items gain (shut a.output) → Handled shape a b (shows rf feed old) (shows rf feed new) p q
-    broken went gain is gained rose kept asks there written ahead abort =
-        let o = shut a.output in
-        let led = led-output shape further was o (λ h. absurd (h is)) (λ e. absurd (let f = open-fails a.output is in cc)) event.led in
-        let after = badly shape further id call event.its (record was { output = o }) b led (shut-shut a.output) (λ e. absurd (let f = open-fails a.output is in cc)) asks in
-        sunk shape past a realm since goes id call t event heard b a.ahead a.abort o after went there rf feed old new p q gain Lost gained written ahead
-        (output-fails a.output gain (shows rf feed old) (shows rf feed new) is rose kept) abort (one-shut a.ahead a.abort o after (shut-shut a.output) refl)
+      -- it fails as it is asked for this, of which some was written
+      broken : (went : Told (List ℕ)) (gain : List ℕ) → a.output ≡ output.Open → Gains p q gain → Rose old.faults new.faults → KeepsTold old.finished new.finished → Fails id was b
+          → ((x : Told (List ℕ)) → IsShortOf (then_told went (lies_to x was sink_link)) (lies_to x a sink_link)) → IsShortOf (told gain Lost) (bytes_of went)
+          → (a.stages.items ≡ [] → a.ahead ≤ length gain + a.ahead) → AbortGoes a.abort a.abort went.items gain (shut a.output) → Handled shape a b (shows rf feed old) (shows rf feed new) p q
+      broken went gain is gained rose kept asks there written ahead abort =
+          let o = shut a.output in
+          let led = led-output shape further was o (λ h. absurd (h is)) (λ e. absurd (let f = open-fails a.output is in cc)) event.led in
+          let after = badly shape further id call event.its (record was { output = o }) b led (shut-shut a.output) (λ e. absurd (let f = open-fails a.output is in cc)) asks in
+          sunk shape past a realm since goes sink_link is_last id call t event heard b a.ahead a.abort o after went there rf feed old new p q gain Lost gained written ahead
+          (output-fails a.output gain (shows rf feed old) (shows rf feed new) is rose kept) abort (one-shut a.ahead a.abort o after (shut-shut a.output) refl)
 
-  heard-write : (v : Value) (k : ℕ) → k ≤ count_in shape → heard_at FromBytes ToSink (count_in shape) k (Host id (Write a.sink v)) ≡ only_at (count_in shape) (told (v ∷ []) MayCome) k
-  heard-write v k less =
-      subst (λ (s : StreamId). heard_at FromBytes ToSink (count_in shape) k (Host id (Write s v)) ≡ only_at (count_in shape) (told (v ∷ []) MayCome) k) (sym since.led.is_of.sink)
-      ((each_event_is_heard_at_one_link FromBytes ToSink (count_in shape) k less).write id v)
+    -- what the sink of the last link is told
+    by-sink : (t : Told Value) (k : ℕ) → only_at (count_in shape) (by_sink shape.target t) k ≡ only_at sink_link t k
+    by-sink t k =
+        ap (λ (target : Target). only_at (count_in shape) (by_sink target t) k) since.led.is_of.into ∙ ap (λ (n : ℕ). only_at n t k) (sym is_last)
 
-  heard-close : (k : ℕ) → k ≤ count_in shape → heard_at FromBytes ToSink (count_in shape) k (Host id (Close a.sink)) ≡ only_at (count_in shape) (told [] Closed) k
-  heard-close k less =
-      subst (λ (s : StreamId). heard_at FromBytes ToSink (count_in shape) k (Host id (Close s)) ≡ only_at (count_in shape) (told [] Closed) k) (sym since.led.is_of.sink)
-      ((each_event_is_heard_at_one_link FromBytes ToSink (count_in shape) k less).close id)
+    heard-write : (v : Value) (k : ℕ) → k ≤ count_in shape → hears_in shape k (Host id (Write a.sink v)) ≡ only_at sink_link (told (v ∷ []) MayCome) k
+    heard-write v k less =
+        subst (λ (s : StreamId). hears_in shape k (Host id (Write s v)) ≡ only_at sink_link (told (v ∷ []) MayCome) k) (sym since.led.is_of.sink)
+        ((each_event_is_heard_at_one_link shape.origin shape.target (count_in shape) k less).write id v ∙ by-sink (told (v ∷ []) MayCome) k)
 
-  module _ (piece : List ℕ) (event : AfterEvent shape past a realm (Host id (Write a.sink (Bytes piece)))) where
-    abbrev call : HostCall
-    call = Write a.sink (Bytes piece)
+    heard-close : (k : ℕ) → k ≤ count_in shape → hears_in shape k (Host id (Close a.sink)) ≡ only_at sink_link (told [] Closed) k
+    heard-close k less =
+        subst (λ (s : StreamId). hears_in shape k (Host id (Close s)) ≡ only_at sink_link (told [] Closed) k) (sym since.led.is_of.sink)
+        ((each_event_is_heard_at_one_link shape.origin shape.target (count_in shape) k less).close id ∙ by-sink (told [] Closed) k)
 
-    abbrev one_told : Told Value
-    one_told = told (Bytes piece ∷ []) MayCome
+    module _ (piece : List ℕ) (event : AfterEvent shape past a realm (Host id (Write a.sink (Bytes piece)))) where
+      abbrev call : HostCall
+      call = Write a.sink (Bytes piece)
 
-    heard : (k : ℕ) → k ≤ count_in shape → heard_at FromBytes ToSink (count_in shape) k (Host id call) ≡ only_at (count_in shape) one_told k
-    heard = heard-write (Bytes piece)
+      abbrev one_told : Told Value
+      one_told = told (Bytes piece ∷ []) MayCome
 
-    out : (x : Told (List ℕ)) → IsShortOf (then_told (told (piece ∷ []) MayCome) (lies_to x was (count_in shape))) (lies_to x a (count_in shape))
-    out = heard-out shape past a realm since goes id call one_told event heard
+      heard : (k : ℕ) → k ≤ count_in shape → hears_in shape k (Host id call) ≡ only_at sink_link one_told k
+      heard = heard-write (Bytes piece)
 
-    short-piece : a.output ≡ output.Open → length piece < 2 ^ 25
-    short-piece is = piece-short shape past a realm since goes piece (lies_to (coming a (count_in shape)) was (count_in shape)) is (out (coming a (count_in shape)))
+      out : (x : Told (List ℕ)) → IsShortOf (then_told (told (piece ∷ []) MayCome) (lies_to x was sink_link)) (lies_to x a sink_link)
+      out = heard-out shape past a realm since goes sink_link is_last id call one_told event heard
 
-    -- it was written first, and then nothing more comes
-    out-lost : (x : Told (List ℕ)) → IsShortOf (then_told (told (piece ∷ []) Lost) (lies_to x was (count_in shape))) (lies_to x a (count_in shape))
-    out-lost x =
-        let n = count_in shape in
-        let f = before_front (then_told (told (piece ∷ []) MayCome) (lies_to x was n)) (lies_to x a n) (before_of_short _ _ (out x)) in
-        ((lies_to x was n).items ++ f.0, f.1)
+      short-piece : a.output ≡ output.Open → length piece < 2 ^ 25
+      short-piece is = piece-short shape past a realm since goes sink_link is_last piece (lies_to (coming a sink_link) was sink_link) is (out (coming a sink_link))
 
-    abbrev left : ℕ
-    left = had_by a.stages.items (length piece) a.ahead
+      -- it was written first, and then nothing more comes
+      out-lost : (x : Told (List ℕ)) → IsShortOf (then_told (told (piece ∷ []) Lost) (lies_to x was sink_link)) (lies_to x a sink_link)
+      out-lost x =
+          let n = sink_link in
+          let f = before_front (then_told (told (piece ∷ []) MayCome) (lies_to x was n)) (lies_to x a n) (before_of_short _ _ (out x)) in
+          ((lies_to x was n).items ++ f.0, f.1)
 
-    abbrev abort_left : Option Abort
-    abort_left = nearer_by (length piece) a.abort
+      abbrev left : ℕ
+      left = had_by a.stages.items (length piece) a.ahead
 
-    one-written : (after : AfterQuiet shape further (record was { ahead = left; abort = abort_left }) b) → a.output ≡ output.Open → is_reached a.abort ≡ false → HasOne b
-    one-written after is near = by a.stages.items refl where
-      b-stages : b.stages.items ≡ a.stages.items
-      b-stages = ap (λ (n : Node). n.stages.items) after.only.is
+      abbrev abort_left : Option Abort
+      abort_left = nearer_by (length piece) a.abort
 
-      by : (ws : List State) → a.stages.items ≡ ws → HasOne b
-      by [] e = λ h.
-          let none : count_in shape ≡ 0 = sym (count-works shape past a realm since goes) ∙ (let f : length (works_in a) ≡ length a.stages.items = length-map a.stages.items (λ (w : State). w.work) in let g : length a.stages.items ≡ 0 = ap length e in omega arith) in
-          let may : may_have a.stages.items a.output a.abort ≡ true = rw (e, is, near) refl in
-          let it : heard_at FromBytes ToSink (count_in shape) 0 (Host id call) ≡ one_told = heard 0 (omega arith) ∙ (ap (λ (n : ℕ). only_at n one_told 0) none ∙ at-there 0 one_told) in
-          let left_over = one-heard a.ahead (Bytes piece) (behind_at 0 realm.slots) (behind_at 0 a.realm.slots)
-          (subst (λ (t : Told Value). IsShortOf (then_told t (behind_at 0 realm.slots)) (behind_at 0 a.realm.slots)) it (event.short 0 (omega arith))) (since.one may) in
-          after.one b.ahead (subst (OneAtMost b.ahead) (sym left_over.0) tt)
-      by (u ∷ us) e =
-          one-stages shape past a realm since goes id call one_told event heard b u us e (b-stages ∙ e)
-          (ap (λ (n : Node). n.ahead) after.only.is ∙ ap (λ (ws : List State). had_by ws (length piece) a.ahead) e) (λ n o. after.one n o)
+      one-written : (after : AfterQuiet shape further (record was { ahead = left; abort = abort_left }) b) → a.output ≡ output.Open → is_reached a.abort ≡ false → HasOne b
+      one-written after is near = by a.stages.items refl where
+        b-stages : b.stages.items ≡ a.stages.items
+        b-stages = ap (λ (n : Node). n.stages.items) after.only.is
 
-    after-drawn : (c : Node) → Led shape further (record was { ahead = left; abort = abort_left }) → Drawn (record was { ahead = left; abort = abort_left }) c → Asks (settles id) c b
-        → AfterQuiet shape further (record was { ahead = left; abort = abort_left }) b
-    after-drawn c led (Same e) asks =
-        well shape further id call event.its (record was { ahead = left; abort = abort_left }) b led (λ f. absurd (cc)) (λ s f. cc) (subst (λ (n : Node). Asks (settles id) n b) e asks)
-    after-drawn c led (Triggered y reached trigger) asks =
-        let n : Node = record was { ahead = left; abort = abort_left } in
-        let first = asks-quietly shape further n c (triggers y) (trigger-quiet y) led (may-trigger shape further n y reached) trigger in
-        quiet-then shape further n c b first
-        (well shape (further ++ first.more) id call (called-longer further first.more id call event.its) c b first.led (λ f. absurd (cc)) (λ s f. cc) asks)
+        by : (ws : List State) → a.stages.items ≡ ws → HasOne b
+        by [] e = λ h.
+            let none : sink_link ≡ 0 = is_last ∙ sym (count-works shape past a realm since goes) ∙ (let f : length (works_in a) ≡ length a.stages.items = length-map a.stages.items (λ (w : State). w.work) in let g : length a.stages.items ≡ 0 = ap length e in omega arith) in
+            let may : may_have a.stages.items a.output a.abort ≡ true = rw (e, is, near) refl in
+            let it : hears_in shape 0 (Host id call) ≡ one_told = heard 0 (omega arith) ∙ (ap (λ (n : ℕ). only_at n one_told 0) none ∙ at-there 0 one_told) in
+            let left_over = one-heard a.ahead (Bytes piece) (behind_at 0 realm.slots) (behind_at 0 a.realm.slots)
+            (subst (λ (t : Told Value). IsShortOf (then_told t (behind_at 0 realm.slots)) (behind_at 0 a.realm.slots)) it (event.short 0 (omega arith))) (since.one may) in
+            after.one b.ahead (subst (OneAtMost b.ahead) (sym left_over.0) tt)
+        by (u ∷ us) e =
+            one-stages shape past a realm since goes sink_link is_last id call one_told event heard b u us e (b-stages ∙ e)
+            (ap (λ (n : Node). n.ahead) after.only.is ∙ ap (λ (ws : List State). had_by ws (length piece) a.ahead) e) (λ n o. after.one n o)
 
-    pub wrote : Writes id piece was b old new p q → Handled shape a b (shows rf feed old) (shows rf feed new) p q
-    wrote (WroteAll is near gained calm kept c draws asks) =
-        let m : Node = record was { ahead = left } in
-        let led = led-abort shape further m abort_left (signal-same (length piece) a.abort) (λ r. absurd (let f : true ≡ false = sym r ∙ near in cc))
-        (led-ahead shape further was left (had-less a.stages.items (length piece) a.ahead) event.led) in
-        let after = after-drawn c led (drawn (length piece) a.abort m c refl draws) asks in
-        sunk shape past a realm since goes id call one_told event heard b left abort_left a.output after (told (piece ∷ []) MayCome) out rf feed old new p q piece MayCome gained (append-nil piece, refl)
-        (had-counts a.stages.items (length piece) a.ahead) (output-open a.output piece (shows rf feed old) (shows rf feed new) is calm kept)
-        (abort-nearer a.abort piece a.output near (short-piece is)) (one-written after is near)
-    wrote (WroteLess is near gain rest e gained rose kept asks) =
-        let few : length gain ≤ length piece = let m : length piece ≡ length gain + length rest = ap length e ∙ length-append gain rest in omega arith in
-        broken call one_told event heard (told (piece ∷ []) Lost) gain is gained rose kept asks out-lost (rest, append-nil piece ∙ e) (λ n. omega arith)
-        (abort-less a.abort piece gain (shut a.output) (open-fails a.output is) near (short-piece is) few)
-    wrote (WroteNone closed untouched asks) = refused call one_told event heard closed untouched asks
-    wrote (Reached is reached untouched asks) =
-        let n : Node = record was { output = output.Aborted } in
-        let led = led-output shape further was output.Aborted (λ h. absurd (h is)) (λ e. reached) event.led in
-        let after = badly shape further id call event.its n b led (λ e. cc) (λ e. reached) asks in
-        rw untouched.shown
-        (sunk shape past a realm since goes id call one_told event heard b a.ahead a.abort output.Aborted after (told [] Lost) (lost-out call one_told event heard) rf feed old old p q [] Lost untouched.gained ([], refl)
-        (λ e. omega arith) (output-aborts a.output (shows rf feed old) is) (abort-same a.abort [] output.Aborted) (one-shut call one_told event heard a.ahead a.abort output.Aborted after (λ e. cc) refl))
+      after-drawn : (c : Node) → Led shape further (record was { ahead = left; abort = abort_left }) → Drawn (record was { ahead = left; abort = abort_left }) c → Asks (settles id) c b
+          → AfterQuiet shape further (record was { ahead = left; abort = abort_left }) b
+      after-drawn c led (Same e) asks =
+          well shape further id call event.its (record was { ahead = left; abort = abort_left }) b led (λ f. absurd (cc)) (λ s f. cc) (subst (λ (n : Node). Asks (settles id) n b) e asks)
+      after-drawn c led (Triggered y reached trigger) asks =
+          let n : Node = record was { ahead = left; abort = abort_left } in
+          let first = asks-quietly shape further n c (triggers y) (trigger-quiet shape y) led (may-trigger shape further n y reached) trigger in
+          quiet-then shape further n c b first
+          (well shape (further ++ first.more) id call (called-longer further first.more id call event.its) c b first.led (λ f. absurd (cc)) (λ s f. cc) asks)
 
-  -- the sink is closed
-  module _ (event : AfterEvent shape past a realm (Host id (Close a.sink))) where
-    pub closed : Finishes id was b old new p q → Handled shape a b (shows rf feed old) (shows rf feed new) p q
-    closed (FinishedWell is gained calm done asks) =
-        let call = Close a.sink in
-        let led = led-output shape further was output.Finished (λ h. absurd (h is)) (λ e. absurd (cc)) event.led in
-        let after = well shape further id call event.its (record was { output = output.Finished }) b led (λ e. refl) (λ s f. cc) asks in
-        sunk shape past a realm since goes id call (told [] Closed) event heard-close b a.ahead a.abort output.Finished after (told [] Closed)
-        (heard-out shape past a realm since goes id call (told [] Closed) event heard-close) rf feed old new p q [] Closed gained (refl, refl)
-        (λ e. omega arith) (output-finishes a.output (shows rf feed old) (shows rf feed new) is calm done) (abort-same a.abort [] output.Finished)
-        (one-shut call (told [] Closed) event heard-close a.ahead a.abort output.Finished after (λ e. cc) refl)
-    closed (FinishedBadly is gained rose kept asks) =
-        let call = Close a.sink in
-        broken call (told [] Closed) event heard-close (told [] Lost) [] is gained rose kept asks (lost-out call (told [] Closed) event heard-close) ([], refl) (λ n. omega arith)
-        (abort-same a.abort [] (shut a.output))
-    closed (FinishedNot shut_already untouched asks) = refused (Close a.sink) (told [] Closed) event heard-close shut_already untouched asks
+      pub wrote : Writes id piece was b old new p q → Handled shape a b (shows rf feed old) (shows rf feed new) p q
+      wrote (WroteAll is near gained calm kept c draws asks) =
+          let m : Node = record was { ahead = left } in
+          let led = led-abort shape further m abort_left (signal-same (length piece) a.abort) (λ r. absurd (let f : true ≡ false = sym r ∙ near in cc))
+          (led-ahead shape further was left (had-less a.stages.items (length piece) a.ahead) event.led) in
+          let after = after-drawn c led (drawn (length piece) a.abort m c refl draws) asks in
+          sunk shape past a realm since goes sink_link is_last id call one_told event heard b left abort_left a.output after (told (piece ∷ []) MayCome) out rf feed old new p q piece MayCome gained (append-nil piece, refl)
+          (had-counts a.stages.items (length piece) a.ahead) (output-open a.output piece (shows rf feed old) (shows rf feed new) is calm kept)
+          (abort-nearer a.abort piece a.output near (short-piece is)) (one-written after is near)
+      wrote (WroteLess is near gain rest e gained rose kept asks) =
+          let few : length gain ≤ length piece = let m : length piece ≡ length gain + length rest = ap length e ∙ length-append gain rest in omega arith in
+          broken call one_told event heard (told (piece ∷ []) Lost) gain is gained rose kept asks out-lost (rest, append-nil piece ∙ e) (λ n. omega arith)
+          (abort-less a.abort piece gain (shut a.output) (open-fails a.output is) near (short-piece is) few)
+      wrote (WroteNone closed untouched asks) = refused call one_told event heard closed untouched asks
+      wrote (Reached is reached untouched asks) =
+          let n : Node = record was { output = output.Aborted } in
+          let led = led-output shape further was output.Aborted (λ h. absurd (h is)) (λ e. reached) event.led in
+          let after = badly shape further id call event.its n b led (λ e. cc) (λ e. reached) asks in
+          rw untouched.shown
+          (sunk shape past a realm since goes sink_link is_last id call one_told event heard b a.ahead a.abort output.Aborted after (told [] Lost) (lost-out call one_told event heard) rf feed old old p q [] Lost untouched.gained ([], refl)
+          (λ e. omega arith) (output-aborts a.output (shows rf feed old) is) (abort-same a.abort [] output.Aborted) (one-shut call one_told event heard a.ahead a.abort output.Aborted after (λ e. cc) refl))
+
+    -- the sink is closed
+    module _ (event : AfterEvent shape past a realm (Host id (Close a.sink))) where
+      pub closed : Finishes id was b old new p q → Handled shape a b (shows rf feed old) (shows rf feed new) p q
+      closed (FinishedWell is gained calm done asks) =
+          let call = Close a.sink in
+          let led = led-output shape further was output.Finished (λ h. absurd (h is)) (λ e. absurd (cc)) event.led in
+          let after = well shape further id call event.its (record was { output = output.Finished }) b led (λ e. refl) (λ s f. cc) asks in
+          sunk shape past a realm since goes sink_link is_last id call (told [] Closed) event heard-close b a.ahead a.abort output.Finished after (told [] Closed)
+          (heard-out shape past a realm since goes sink_link is_last id call (told [] Closed) event heard-close) rf feed old new p q [] Closed gained (refl, refl)
+          (λ e. omega arith) (output-finishes a.output (shows rf feed old) (shows rf feed new) is calm done) (abort-same a.abort [] output.Finished)
+          (one-shut call (told [] Closed) event heard-close a.ahead a.abort output.Finished after (λ e. cc) refl)
+      closed (FinishedBadly is gained rose kept asks) =
+          let call = Close a.sink in
+          broken call (told [] Closed) event heard-close (told [] Lost) [] is gained rose kept asks (lost-out call (told [] Closed) event heard-close) ([], refl) (λ n. omega arith)
+          (abort-same a.abort [] (shut a.output))
+      closed (FinishedNot shut_already untouched asks) = refused (Close a.sink) (told [] Closed) event heard-close shut_already untouched asks
 
   -- of nothing whose bytes lie in the node
-  module _ (e : Event) (event : AfterEvent shape past a realm e) (quiet : (k : ℕ) → k ≤ count_in shape → in_bytes (heard_at FromBytes ToSink (count_in shape) k e) ≡ nothing_yet) (one : HasOne was) where
+  module _ (e : Event) (event : AfterEvent shape past a realm e) (quiet : (k : ℕ) → k ≤ count_in shape → in_bytes (hears_in shape k e) ≡ nothing_yet) (one : HasOne was) where
     unheard : (k : ℕ) → k ≤ count_in shape → IsShortOf (lies_in was k) (lies_in a k)
     unheard k less = unheard-lies shape past a realm e event goes (coming a k) k less (quiet k less)
 

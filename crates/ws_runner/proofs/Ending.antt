@@ -22,7 +22,7 @@ use Rattle.ws_end_laws.specs.PromiseEnds.{IsOpenUntilTheEnd, outcome_of_end}
 use Rattle.ws_end_laws.proofs.PromiseEnds.{each_promise_is_open_until_the_end}
 use Rattle.ws_pipe_laws.specs.PipeHistory.{is_over, run_course}
 use Rattle.ws_host_laws.specs.HostCalls.{WasSettledWell}
-use Rattle.ws_chain_laws.specs.Chain.{FromBytes, ToSink, dest_of, link_of}
+use Rattle.ws_chain_laws.specs.Chain.{dest_of, link_of}
 use Rattle.ws_chain_laws.proofs.Links.{link-at}
 use Rattle.ws_realm.specs.Seen.{outcome_named, where_named}
 use Rattle.ws_realm.specs.declared.realm.Why.TheVariants as why
@@ -67,7 +67,7 @@ module _ (shape : Shape) (past : List Entry) (n : Node) (led : Led shape past n)
       let s : Slots = run past empty in
       let x = pipe_at (link_of k) s in
       let there : slice_get s.pipes k ≡ Some x =
-      subst (λ (z : Slots). slice_get z.pipes k ≡ Some (pipe_at (link_of k) z)) led.ran.slots (link-at FromBytes ToSink k n.realm.slots led.ran.wired k (omega arith)).link.there in
+      subst (λ (z : Slots). slice_get z.pipes k ≡ Some (pipe_at (link_of k) z)) led.ran.slots (link-at shape.origin shape.target k n.realm.slots led.ran.wired k (omega arith)).link.there in
       settles-by x (is_over x.phase) (run_course (link_of k) past empty).ended out refl
       (subst (λ (p : PromiseId). IsOpenUntilTheEnd x (run_course (link_of k) past empty).ended (outcome_at s.promises p)) ends.its
       (each_promise_is_open_until_the_end past (link_of k) x there))

@@ -2,12 +2,12 @@
 use Rattle.std.proofs.Common.{◌≡◌, ◌≤◌, ℕ, List, [], ◌∷◌, Option, None, refl, sym, subst}
 use Rattle.ws_value.specs.declared.value.Value.{Value}
 use Rattle.ws_value.specs.declared.value.Value.TheVariants.{Plain as PlainValue, Bytes}
-use Rattle.ws_runner.specs.Shape.{Shape, count_in}
+use Rattle.ws_runner.specs.Shape.{Shape, count_in, hears_in}
 use Rattle.ws_flow.specs.Told.{Open, Told, told, then_told, IsShortOf}
 use Rattle.ws_flow.proofs.Told.{then_assoc, short_same, short_right}
 use Rattle.ws_steps.specs.declared.calls.Event.{Event}
 use Rattle.ws_steps.specs.Run.{Entry}
-use Rattle.ws_chain_laws.specs.Chain.{FromBytes, ToSink, behind_at, heard_at}
+use Rattle.ws_chain_laws.specs.Chain.{behind_at}
 use Rattle.ws_link_laws.specs.Link.{silence}
 use Rattle.ws_realm.specs.Seen.{SeenRealm}
 use Rattle.ws_realm.specs.declared.realm.Why.{Why}
@@ -41,14 +41,14 @@ one-heard n v x y h o = by v (one-short n (then_told (told (v ∷ []) Open) x) y
 module _ (shape : Shape) (past : List Entry) (a : Node) (realm : SeenRealm) (e : Event) (after : AfterEvent shape past a realm e) (goes : a.stopped ≡ None) where
   -- what is heard lay first
   pub heard-lies : (t : Told (List ℕ)) (k : ℕ) → k ≤ count_in shape
-      → IsShortOf (then_told (in_bytes (heard_at FromBytes ToSink (count_in shape) k e)) (lies_to t (with_realm realm a) k)) (lies_to t a k)
+      → IsShortOf (then_told (in_bytes (hears_in shape k e)) (lies_to t (with_realm realm a) k)) (lies_to t a k)
   heard-lies t k less =
-      subst (λ (why : Option Why). IsShortOf (then_told (in_bytes (heard_at FromBytes ToSink (count_in shape) k e)) (lying_by why (then_told (in_bytes (behind_at k realm.slots)) t)))
+      subst (λ (why : Option Why). IsShortOf (then_told (in_bytes (hears_in shape k e)) (lying_by why (then_told (in_bytes (behind_at k realm.slots)) t)))
       (lying_by why (then_told (in_bytes (behind_at k a.realm.slots)) t))) (sym goes)
-      (heard_short (heard_at FromBytes ToSink (count_in shape) k e) (behind_at k realm.slots) (behind_at k a.realm.slots) t (after.short k less))
+      (heard_short (hears_in shape k e) (behind_at k realm.slots) (behind_at k a.realm.slots) t (after.short k less))
 
   -- so what lies there is short of that where nothing of bytes is heard
-  pub unheard-lies : (t : Told (List ℕ)) (k : ℕ) → k ≤ count_in shape → in_bytes (heard_at FromBytes ToSink (count_in shape) k e) ≡ nothing_yet
+  pub unheard-lies : (t : Told (List ℕ)) (k : ℕ) → k ≤ count_in shape → in_bytes (hears_in shape k e) ≡ nothing_yet
       → IsShortOf (lies_to t (with_realm realm a) k) (lies_to t a k)
   unheard-lies t k less quiet =
       subst (λ q. IsShortOf (then_told q (lies_to t (with_realm realm a) k)) (lies_to t a k)) quiet (heard-lies t k less)

@@ -1,6 +1,6 @@
 -- A node that was led on, and how it went there.
 use Rattle.std.proofs.Common.{◌≡◌, ℕ, List, None}
-use Rattle.ws_runner.specs.Shape.{Shape, count_in}
+use Rattle.ws_runner.specs.Shape.{Shape}
 use Rattle.ws_io.specs.Feed.{Feed}
 use Rattle.ws_io.specs.Moment.{Moment, moment}
 use Rattle.std.specs.Prelude.{Option}

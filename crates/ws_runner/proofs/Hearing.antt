@@ -1,5 +1,5 @@
 -- A node hears of an event.
-use Rattle.std.proofs.Common.{◌≡◌, ◌<◌, ◌≤◌, ℕ, nat_eq, Bool, true, false, List, [], ◌∷◌, ◌++◌, length, Option, Some, None, refl, sym, ap, ◌∙◌, subst, arith}
+use Rattle.std.proofs.Common.{◌≡◌, ◌<◌, ◌≤◌, ℕ, suc, nat_eq, Bool, true, false, List, [], ◌∷◌, ◌++◌, length, Option, Some, None, refl, sym, ap, ◌∙◌, subst, arith}
 use Rattle.std.specs.Prelude.{All, if◌then◌else◌}
 use Rattle.std.proofs.lemmas.List.{length-map}
 use Rattle.std.proofs.lemmas.List.Elements.{All-head, All-tail}
@@ -8,7 +8,7 @@ use Rattle.ws_value.specs.declared.ids.StreamId.{StreamId}
 use Rattle.ws_value.specs.declared.value.Plain.{Plain}
 use Rattle.ws_value.specs.declared.value.Value.{Value}
 use Rattle.ws_value.specs.declared.value.Value.TheVariants.{Bytes, Plain as PlainValue}
-use Rattle.ws_runner.specs.Shape.{Shape, count_in}
+use Rattle.ws_runner.specs.Shape.{Shape, count_in, hears_in}
 use Rattle.ws_flow.specs.Laws.{AreShort}
 use Rattle.ws_flow.specs.Steps.{parts_at}
 use Rattle.ws_flow.specs.Told.{Open, Told, told, then_told, IsShortOf}
@@ -26,10 +26,10 @@ use Rattle.ws_steps.specs.declared.calls.HostCall.{HostCall}
 use Rattle.ws_steps.specs.declared.calls.HostCall.TheVariants.{Start, Pull, Cancel, Write, Close, Abort, Transform, Flush, CancelTransform}
 use Rattle.ws_steps.specs.Histories.{is_same}
 use Rattle.ws_steps.specs.Run.{Entry, Heard, first_event, after_event}
-use Rattle.ws_chain_laws.specs.Chain.{FromBytes, ToSink, dest_of, behind_at, ear_of, heard_at}
-use Rattle.ws_chain_laws.specs.Nodes.{only_at}
+use Rattle.ws_chain_laws.specs.Chain.{Target, ToSink, ToPort, source_of, dest_of, transform_of, behind_at, last_ear, ear_of}
+use Rattle.ws_chain_laws.specs.Nodes.{by_sink, only_at}
 use Rattle.ws_chain_laws.proofs.Nodes.{each_event_is_heard_at_one_link}
-use Rattle.ws_link_laws.specs.Link.{silence, is_sink, is_half}
+use Rattle.ws_link_laws.specs.Link.{OfTransform, silence, is_sink, is_half, is_port}
 use Rattle.ws_realm.specs.Seen.{SeenRealm}
 use Rattle.ws_realm.specs.declared.realm.Why.{Why}
 use Rattle.ws_runner.specs.declared.node.Node.{Node}
@@ -56,7 +56,7 @@ among P (u ∷ before) after w h = among P before after w (All-tail P u (before 
 
 module _ (shape : Shape) (past : List Entry) (a : Node) (realm : SeenRealm) (since : Since shape past a) (goes : a.stopped ≡ None) (id : HostId) where
   -- the one chunk on the first link is that which was counted
-  one-counted : (call : HostCall) (piece : List ℕ) → AfterEvent shape past a realm (Host id call) → heard_at FromBytes ToSink (count_in shape) 0 (Host id call) ≡ told (Bytes piece ∷ []) Open
+  one-counted : (call : HostCall) (piece : List ℕ) → AfterEvent shape past a realm (Host id call) → hears_in shape 0 (Host id call) ≡ told (Bytes piece ∷ []) Open
       → may_have a.stages.items a.output a.abort ≡ true → length piece ≤ a.ahead
   one-counted call piece event is may =
       let o = one-heard a.ahead (Bytes piece) (behind_at 0 realm.slots) (behind_at 0 a.realm.slots)
@@ -65,12 +65,12 @@ module _ (shape : Shape) (past : List Entry) (a : Node) (realm : SeenRealm) (sin
       omega arith
 
   heard-stage : (i : StreamId) (before after : List State) (w : State) (v : Value) → IsAt i a.stages.items before w after
-      → heard_at FromBytes ToSink (count_in shape) (length before) (Host id (Transform i v)) ≡ told (v ∷ []) Open
+      → hears_in shape (length before) (Host id (Transform i v)) ≡ told (v ∷ []) Open
   heard-stage i before after w v at =
       let e = count-is shape a before after w goes since.led.is_of.stages at.whole in
       let j = length before in
-      subst (λ (s : StreamId). heard_at FromBytes ToSink (count_in shape) j (Host id (Transform s v)) ≡ told (v ∷ []) Open) (sym at.place)
-      ((each_event_is_heard_at_one_link FromBytes ToSink (count_in shape) j (omega arith)).transform id j v (omega arith) ∙ at-there j (told (v ∷ []) Open))
+      subst (λ (s : StreamId). hears_in shape j (Host id (Transform s v)) ≡ told (v ∷ []) Open) (sym at.place)
+      ((each_event_is_heard_at_one_link shape.origin shape.target (count_in shape) j (omega arith)).transform id j v (omega arith) ∙ at-there j (told (v ∷ []) Open))
 
   -- a chunk that comes to a stage which may be asked is below 2^25 bytes
   stage-short : (i : StreamId) (piece : List ℕ) (before after : List State) (w : State) → IsAt i a.stages.items before w after → IsLive w.work
@@ -99,8 +99,10 @@ module _ (shape : Shape) (past : List Entry) (a : Node) (realm : SeenRealm) (sin
         let w : HostCall = Write a.sink (Bytes piece) in
         let zero_is : n ≡ 0 = sym (count-works shape past a realm since goes)
         ∙ (let f : length (works_in a) ≡ length a.stages.items = length-map a.stages.items (λ (u : State). u.work) in let g : length a.stages.items ≡ 0 = ap length none in omega arith) in
-        let heard : heard_at FromBytes ToSink n 0 (Host id w) ≡ told (Bytes piece ∷ []) Open =
-        subst (λ (s : StreamId). heard_at FromBytes ToSink n 0 (Host id (Write s (Bytes piece))) ≡ only_at n (told (Bytes piece ∷ []) Open) 0) (sym since.led.is_of.sink) ((each_event_is_heard_at_one_link FromBytes ToSink n 0 (omega arith)).write id (Bytes piece))
+        let heard : hears_in shape 0 (Host id w) ≡ told (Bytes piece ∷ []) Open =
+        subst (λ (s : StreamId). hears_in shape 0 (Host id (Write s (Bytes piece))) ≡ only_at n (told (Bytes piece ∷ []) Open) 0) (sym since.led.is_of.sink)
+        ((each_event_is_heard_at_one_link shape.origin shape.target n 0 (omega arith)).write id (Bytes piece)
+        ∙ ap (λ (t : Target). only_at n (by_sink t (told (Bytes piece ∷ []) Open)) 0) since.led.is_of.into)
         ∙ (ap (λ (k : ℕ). only_at k (told (Bytes piece ∷ []) Open) 0) zero_is ∙ at-there 0 (told (Bytes piece ∷ []) Open)) in
         one-counted w piece (subst (λ (c : HostCall). AfterEvent shape past a realm (Host id c)) is event) heard (rw (none, opened, near) refl);
     had = λ i piece is after w at live.
@@ -140,17 +142,22 @@ the-sink s i e = ap (λ (x : ℕ). let j : StreamId = record { 0 = x } in j) (sy
 not-the-sink : (s i : StreamId) → is_same s i ≡ false → Close i ≡ Close s → ⊥
 not-the-sink s i e f = let g : i ≡ s = grind arith in absurd (let h : is_same i i ≡ false = subst (λ z. is_same z i ≡ false) (sym g) e in let k = is_same-refl i in cc)
 
-module _ (n k : ℕ) (id : HostId) (i : StreamId) (other : is_same (dest_of n) i ≡ false) where
-  ear-other : is_sink (ear_of FromBytes ToSink n k) i ≡ false
-  ear-other = by (nat_eq k n) refl where
-    by : (b : Bool) → nat_eq k n ≡ b → is_sink (ear_of FromBytes ToSink n k) i ≡ false
-    by true e = rw e (subst (λ (j : ℕ). is_same (dest_of j) i ≡ false) (sym (eq_numbers k n e)) other)
-    by false e = rw e refl
+module _ (shape : Shape) (k : ℕ) (id : HostId) (i : StreamId) (other : is_same (dest_of (count_in shape)) i ≡ false) where
+  abbrev n : ℕ
+  n = count_in shape
 
-  no-write : (v : Value) → heard_at FromBytes ToSink n k (Host id (Write i v)) ≡ silence
+  ear-other : is_sink (ear_of shape.origin shape.target n k) i ≡ false
+  ear-other = by shape.target (nat_eq k n) refl where
+    by : (t : Target) (b : Bool) → nat_eq k n ≡ b
+        → is_sink (if b then last_ear shape.origin t (dest_of k) else OfTransform (transform_of k) (source_of (suc k))) i ≡ false
+    by ToSink true e = subst (λ (j : ℕ). is_same (dest_of j) i ≡ false) (sym (eq_numbers k n e)) other
+    by ToPort true e = refl
+    by t false e = refl
+
+  no-write : (v : Value) → hears_in shape k (Host id (Write i v)) ≡ silence
   no-write v = rw ear-other refl
 
-  no-close : heard_at FromBytes ToSink n k (Host id (Close i)) ≡ silence
+  no-close : hears_in shape k (Host id (Close i)) ≡ silence
   no-close = rw ear-other refl
 
 module _ (rf : ℕ) (feed : Option Feed) (p q : List ℕ → Type 0) (shape : Shape) (past : List Entry) (a : Node) (realm : SeenRealm) (b : Node) (old new : Shown) (since : Since shape past a)
@@ -161,20 +168,20 @@ module _ (rf : ℕ) (feed : Option Feed) (p q : List ℕ → Type 0) (shape : Sh
   abbrev Done : Type 0
   Done = Handled shape a b (shows rf feed old) (shows rf feed new) p q
 
-  one-was : (e : Event) → AfterEvent shape past a realm e → heard_at FromBytes ToSink (count_in shape) 0 e ≡ silence → HasOne was
-  one-was e event quiet h = one-quiet a.ahead (heard_at FromBytes ToSink (count_in shape) 0 e) (behind_at 0 realm.slots) (behind_at 0 a.realm.slots) quiet (event.short 0 (omega arith)) (since.one h)
+  one-was : (e : Event) → AfterEvent shape past a realm e → hears_in shape 0 e ≡ silence → HasOne was
+  one-was e event quiet h = one-quiet a.ahead (hears_in shape 0 e) (behind_at 0 realm.slots) (behind_at 0 a.realm.slots) quiet (event.short 0 (omega arith)) (since.one h)
 
   -- of the node it tells nothing
-  told-only : (id : HostId) (e : Event) → AfterEvent shape past a realm e → ((k : ℕ) → k ≤ count_in shape → heard_at FromBytes ToSink (count_in shape) k e ≡ silence) → b ≡ was → Untouched old new p q → Done
+  told-only : (id : HostId) (e : Event) → AfterEvent shape past a realm e → ((k : ℕ) → k ≤ count_in shape → hears_in shape k e ≡ silence) → b ≡ was → Untouched old new p q → Done
   told-only id e event quiet same untouched =
       noted rf feed p q shape past a realm id b old new since goes e event (λ k less. ap in_bytes (quiet k less)) (one-was e event (quiet 0 (omega arith))) same untouched
 
   module _ (id : HostId) (call : HostCall) (event : AfterEvent shape past a realm (Host id call)) where
-    at-once : ((k : ℕ) → k ≤ count_in shape → heard_at FromBytes ToSink (count_in shape) k (Host id call) ≡ silence) → (call ≡ Close a.sink → ⊥) → ((s : StreamId) → call ≡ Flush s → ⊥) → Settles id was b old new p q → Done
+    at-once : ((k : ℕ) → k ≤ count_in shape → hears_in shape k (Host id call) ≡ silence) → (call ≡ Close a.sink → ⊥) → ((s : StreamId) → call ≡ Flush s → ⊥) → Settles id was b old new p q → Done
     at-once quiet other flush h =
         settled rf feed p q shape past a realm id b old new since goes (Host id call) event (λ k less. ap in_bytes (quiet k less)) (one-was (Host id call) event (quiet 0 (omega arith))) call refl other flush h
 
-    pull-waits : (i : StreamId) → call ≡ Pull i → ((k : ℕ) → k ≤ count_in shape → heard_at FromBytes ToSink (count_in shape) k (Host id call) ≡ silence) → b ≡ record was { asked = Some id } → Untouched old new p q → Done
+    pull-waits : (i : StreamId) → call ≡ Pull i → ((k : ℕ) → k ≤ count_in shape → hears_in shape k (Host id call) ≡ silence) → b ≡ record was { asked = Some id } → Untouched old new p q → Done
     pull-waits i is quiet same untouched =
         pulled rf feed p q shape past a realm id b old new since goes (Host id call) event (λ k less. ap in_bytes (quiet k less)) (one-was (Host id call) event (quiet 0 (omega arith))) i
         (ap (λ (c : HostCall). let e : Event = Host id c in e) is) same untouched
@@ -183,14 +190,14 @@ module _ (rf : ℕ) (feed : Option Feed) (p q : List ℕ → Type 0) (shape : Sh
   module _ (id : HostId) (i : StreamId) (v : Plain) where
     plain-written : AfterEvent shape past a realm (Host id (Write i (PlainValue v))) → Settles id was b old new p q → Done
     plain-written event h =
-        settled rf feed p q shape past a realm id b old new since goes (Host id (Write i (PlainValue v))) event (λ k less. plain-bytes v (is_sink (ear_of FromBytes ToSink (count_in shape) k) i))
-        (λ o. plain-one a.ahead v (is_sink (ear_of FromBytes ToSink (count_in shape) 0) i) (behind_at 0 realm.slots) (behind_at 0 a.realm.slots) (event.short 0 (omega arith)) (since.one o))
+        settled rf feed p q shape past a realm id b old new since goes (Host id (Write i (PlainValue v))) event (λ k less. plain-bytes v (is_sink (ear_of shape.origin shape.target (count_in shape) k) i))
+        (λ o. plain-one a.ahead v (is_sink (ear_of shape.origin shape.target (count_in shape) 0) i) (behind_at 0 realm.slots) (behind_at 0 a.realm.slots) (event.short 0 (omega arith)) (since.one o))
         (Write i (PlainValue v)) refl (λ f. cc) (λ s f. cc) h
 
     plain-transformed : AfterEvent shape past a realm (Host id (Transform i (PlainValue v))) → Settles id was b old new p q → Done
     plain-transformed event h =
-        settled rf feed p q shape past a realm id b old new since goes (Host id (Transform i (PlainValue v))) event (λ k less. plain-bytes v (is_half (ear_of FromBytes ToSink (count_in shape) k) i))
-        (λ o. plain-one a.ahead v (is_half (ear_of FromBytes ToSink (count_in shape) 0) i) (behind_at 0 realm.slots) (behind_at 0 a.realm.slots) (event.short 0 (omega arith)) (since.one o))
+        settled rf feed p q shape past a realm id b old new since goes (Host id (Transform i (PlainValue v))) event (λ k less. plain-bytes v (is_half (ear_of shape.origin shape.target (count_in shape) k) i))
+        (λ o. plain-one a.ahead v (is_half (ear_of shape.origin shape.target (count_in shape) 0) i) (behind_at 0 realm.slots) (behind_at 0 a.realm.slots) (event.short 0 (omega arith)) (since.one o))
         (Transform i (PlainValue v)) refl (λ f. cc) (λ s f. cc) h
 
   other-sink : (i : StreamId) → is_same a.sink i ≡ false → is_same (dest_of (count_in shape)) i ≡ false
@@ -198,17 +205,17 @@ module _ (rf : ℕ) (feed : Option Feed) (p q : List ℕ → Type 0) (shape : Sh
 
   written-by : (id : HostId) (i : StreamId) (v : Value) (t : Bool) → is_same a.sink i ≡ t → AfterEvent shape past a realm (Host id (Write i v)) → writes_by id v was b old new p q t → Done
   written-by id i (Bytes piece) true e event w =
-      wrote rf feed p q shape past a realm id b old new since goes piece (subst (λ (s : StreamId). AfterEvent shape past a realm (Host id (Write s (Bytes piece)))) (the-sink a.sink i e) event) w
+      wrote rf feed p q shape past a realm id b old new since goes (count_in shape) refl piece (subst (λ (s : StreamId). AfterEvent shape past a realm (Host id (Write s (Bytes piece)))) (the-sink a.sink i e) event) w
   written-by id i (Bytes piece) false e event w =
-      at-once id (Write i (Bytes piece)) event (λ k less. no-write (count_in shape) k id i (other-sink i e) (Bytes piece)) (λ f. cc) (λ s f. cc) w
+      at-once id (Write i (Bytes piece)) event (λ k less. no-write shape k id i (other-sink i e) (Bytes piece)) (λ f. cc) (λ s f. cc) w
   written-by id i (PlainValue v) true e event w = plain-written id i v event w
   written-by id i (PlainValue v) false e event w = plain-written id i v event w
 
   closed-by : (id : HostId) (i : StreamId) (t : Bool) → is_same a.sink i ≡ t → AfterEvent shape past a realm (Host id (Close i)) → finishes_by id was b old new p q t → Done
   closed-by id i true e event f =
-      closed rf feed p q shape past a realm id b old new since goes (subst (λ (s : StreamId). AfterEvent shape past a realm (Host id (Close s))) (the-sink a.sink i e) event) f
+      closed rf feed p q shape past a realm id b old new since goes (count_in shape) refl (subst (λ (s : StreamId). AfterEvent shape past a realm (Host id (Close s))) (the-sink a.sink i e) event) f
   closed-by id i false e event f =
-      at-once id (Close i) event (λ k less. no-close (count_in shape) k id i (other-sink i e)) (not-the-sink a.sink i e) (λ s g. cc) f
+      at-once id (Close i) event (λ k less. no-close shape k id i (other-sink i e)) (not-the-sink a.sink i e) (λ s g. cc) f
 
   answered : (id : HostId) (call : HostCall) → AfterEvent shape past a realm (Host id call) → Answers id call was b old new p q → Done
   answered id (Start i) event h = at-once id (Start i) event (λ k less. refl) (λ f. cc) (λ s f. cc) h
@@ -226,7 +233,8 @@ module _ (rf : ℕ) (feed : Option Feed) (p q : List ℕ → Type 0) (shape : Sh
   heard-of (Host id call) event h = answered id call event h
   heard-of (Settled d) event h = told-only (record { 0 = 0 }) (Settled d) event (λ k less. refl) h.0 h.1
   heard-of (Signal i r) event h = told-only (record { 0 = 0 }) (Signal i r) event (λ k less. refl) h.0 h.1
-  heard-of (Post c m) event h = told-only (record { 0 = 0 }) (Post c m) event (λ k less. (each_event_is_heard_at_one_link FromBytes ToSink (count_in shape) k less).post_elsewhere c m refl) h.0 h.1
+  heard-of (Post c m) event h = told-only (record { 0 = 0 }) (Post c m) event (λ k less. (each_event_is_heard_at_one_link shape.origin shape.target (count_in shape) k less).post_elsewhere c m
+      (subst (λ (t : Target). is_port (last_ear shape.origin t (dest_of (count_in shape))) c ≡ false) (sym since.led.is_of.into) refl)) h.0 h.1
 
 pub hears : (rf : ℕ) (feed : Option Feed) (p q : List ℕ → Type 0) (shape : Shape) (past : List Entry) (a : Node) (realm : SeenRealm) (e : Event) (b : Node) (old new : Shown)
     → Since shape past a → a.stopped ≡ None → first_event a.realm.slots.promises.events ≡ Some e → realm.slots ≡ after_event a.realm.slots

@@ -304,6 +304,8 @@ module _ (plan : Plan) (n : Node) (is_accepted : IsAccepted plan) (f : IsFresh p
   is-shaped : IsShaped (shape_of plan) n
   is-shaped = record {
     fit = let a = accepted plan is_accepted in record { few = a.stages; range = a.range; hex = a.hex };
+    from = refl;
+    into = refl;
     stages = is-of.stages;
     sink = is-of.sink;
     most = is-of.most;

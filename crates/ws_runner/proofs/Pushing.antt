@@ -7,7 +7,7 @@ use Rattle.ws_value.specs.declared.value.Value.{Value}
 use Rattle.ws_value.specs.declared.value.Value.TheVariants.{Bytes}
 use Rattle.ws_flow.specs.declared.plan.Ending.{Ending}
 use Rattle.ws_flow.specs.declared.plan.Ending.TheVariants.{Fine, Bad}
-use Rattle.ws_runner.specs.Shape.{Shape, count_in}
+use Rattle.ws_runner.specs.Shape.{Shape, count_in, hears_in}
 use Rattle.ws_flow.specs.Machines.{Kept}
 use Rattle.ws_flow.specs.Parts.{AtWork, Over, Goes}
 use Rattle.ws_flow.specs.Stages.{machine, machines}
@@ -22,7 +22,7 @@ use Rattle.ws_steps.specs.declared.calls.Event.TheVariants.{Host}
 use Rattle.ws_steps.specs.declared.calls.HostCall.{HostCall}
 use Rattle.ws_steps.specs.declared.calls.HostCall.TheVariants.{Transform, Flush}
 use Rattle.ws_steps.specs.Run.{Entry, Heard}
-use Rattle.ws_chain_laws.specs.Chain.{FromBytes, ToSink, behind_at, heard_at}
+use Rattle.ws_chain_laws.specs.Chain.{behind_at}
 use Rattle.ws_chain_laws.specs.Nodes.{only_at}
 use Rattle.ws_chain_laws.proofs.Nodes.{each_event_is_heard_at_one_link}
 use Rattle.ws_link_laws.specs.Link.{silence}
@@ -117,7 +117,7 @@ module _ (shape : Shape) (past : List Entry) (a : Node) (realm : SeenRealm) (id 
 
   -- an event at a stage
   module _ (before after : List State) (w : State) (at : IsAt i a.stages.items before w after) (call : HostCall) (t : Told Value) (event : AfterEvent shape past a realm (Host id call))
-      (heard : (k : ℕ) → k ≤ count_in shape → heard_at FromBytes ToSink (count_in shape) k (Host id call) ≡ only_at (length before) t k) where
+      (heard : (k : ℕ) → k ≤ count_in shape → hears_in shape k (Host id call) ≡ only_at (length before) t k) where
     count : count_in shape ≡ length before + suc (length after)
     count = count-is shape a before after w goes since.led.is_of.stages at.whole
 
@@ -142,14 +142,14 @@ module _ (shape : Shape) (past : List Entry) (a : Node) (realm : SeenRealm) (id 
     -- with the first link, where the stage isn't the first
     one-elsewhere : 0 ≢ length before → (n : ℕ) → OneAtMost n (behind_at 0 a.realm.slots).items → OneAtMost n (behind_at 0 realm.slots).items
     one-elsewhere other n o =
-        one-quiet n (heard_at FromBytes ToSink (count_in shape) 0 (Host id call)) (behind_at 0 realm.slots) (behind_at 0 a.realm.slots) (heard 0 first_is ∙ at-elsewhere (length before) 0 t other)
+        one-quiet n (hears_in shape 0 (Host id call)) (behind_at 0 realm.slots) (behind_at 0 a.realm.slots) (heard 0 first_is ∙ at-elsewhere (length before) 0 t other)
         (event.short 0 first_is) o
 
     -- the stage is over
     over-on : (IsLive w.work → ⊥) → Handled shape a was m m p q
     over-on not_live =
         rested (Host id call) event
-        (one-ended before after w w t (heard_at FromBytes ToSink (count_in shape) 0 (Host id call)) was at.whole at.whole not_live (λ u us e. refl) (heard 0 first_is) (event.short 0 first_is) (λ n o. o))
+        (one-ended before after w w t (hears_in shape 0 (Host id call)) was at.whole at.whole not_live (λ u us e. refl) (heard 0 first_is) (event.short 0 first_is) (λ n o. o))
         (over-goes shape a before after w goes since.led.is_of.stages at.whole was w refl at.whole not_live refl (λ k less other. unheard-there (coming was k) k less other))
 
     -- the stage was asked
@@ -198,7 +198,7 @@ module _ (shape : Shape) (past : List Entry) (a : Node) (realm : SeenRealm) (id 
             past = past ++ Heard ∷ [];
             led = subst (Led shape (past ++ Heard ∷ [])) (sym ends) (led-stopped shape (past ++ Heard ∷ []) c why.NoMemory (λ e. absurd (cc)) led);
             pushes = λ e. absurd (let f : Some why.NoMemory ≡ None = sym stopped ∙ e in cc);
-            one = one-ended before after w v t (heard_at FromBytes ToSink (count_in shape) 0 (Host id call)) b at.whole (b-items only) (λ l. subst IsLive over l)
+            one = one-ended before after w v t (hears_in shape 0 (Host id call)) b at.whole (b-items only) (λ l. subst IsLive over l)
                 (λ u us e. b-ahead only ∙ ahead u us e) (heard 0 first_is) (event.short 0 first_is)
                 (λ n o. subst (λ (z : Node). OneAtMost n (behind_at 0 z.realm.slots).items) (sym ends) (subst (λ (z : Node). OneAtMost n (behind_at 0 z.realm.slots).items) (sym is) o));
             went = went-on only (stopped-goes shape a before after w goes since.led.is_of.stages at.whole b v (b-input only) (b-items only) why.NoMemory live over stopped);
@@ -234,26 +234,26 @@ module _ (shape : Shape) (past : List Entry) (a : Node) (realm : SeenRealm) (id 
         on some one goes_on = record { past = (past ++ Heard ∷ []) ++ all.more; led = all.led; pushes = pushes-on some; one = one; went = went-on all.only goes_on }
 
   heard-transform : (before after : List State) (w : State) → IsAt i a.stages.items before w after → (v : Value) (k : ℕ) → k ≤ count_in shape
-      → heard_at FromBytes ToSink (count_in shape) k (Host id (Transform i v)) ≡ only_at (length before) (told (v ∷ []) Open) k
+      → hears_in shape k (Host id (Transform i v)) ≡ only_at (length before) (told (v ∷ []) Open) k
   heard-transform before after w at v k less =
       let e = count-is shape a before after w goes since.led.is_of.stages at.whole in
-      subst (λ (s : StreamId). heard_at FromBytes ToSink (count_in shape) k (Host id (Transform s v)) ≡ only_at (length before) (told (v ∷ []) Open) k) (sym at.place)
-      ((each_event_is_heard_at_one_link FromBytes ToSink (count_in shape) k less).transform id (length before) v (omega arith))
+      subst (λ (s : StreamId). hears_in shape k (Host id (Transform s v)) ≡ only_at (length before) (told (v ∷ []) Open) k) (sym at.place)
+      ((each_event_is_heard_at_one_link shape.origin shape.target (count_in shape) k less).transform id (length before) v (omega arith))
 
   heard-flush : (before after : List State) (w : State) → IsAt i a.stages.items before w after → (k : ℕ) → k ≤ count_in shape
-      → heard_at FromBytes ToSink (count_in shape) k (Host id (Flush i)) ≡ only_at (length before) (told [] Closed) k
+      → hears_in shape k (Host id (Flush i)) ≡ only_at (length before) (told [] Closed) k
   heard-flush before after w at k less =
       let e = count-is shape a before after w goes since.led.is_of.stages at.whole in
-      subst (λ (s : StreamId). heard_at FromBytes ToSink (count_in shape) k (Host id (Flush s)) ≡ only_at (length before) (told [] Closed) k) (sym at.place)
-      ((each_event_is_heard_at_one_link FromBytes ToSink (count_in shape) k less).flush id (length before) (omega arith))
+      subst (λ (s : StreamId). hears_in shape k (Host id (Flush s)) ≡ only_at (length before) (told [] Closed) k) (sym at.place)
+      ((each_event_is_heard_at_one_link shape.origin shape.target (count_in shape) k less).flush id (length before) (omega arith))
 
-  no-stage : (e : Event) → AfterEvent shape past a realm e → ((k : ℕ) → k ≤ count_in shape → heard_at FromBytes ToSink (count_in shape) k e ≡ silence) → Handled shape a was m m p q
+  no-stage : (e : Event) → AfterEvent shape past a realm e → ((k : ℕ) → k ≤ count_in shape → hears_in shape k e ≡ silence) → Handled shape a was m m p q
   no-stage e event quiet =
       record {
         past = past ++ Heard ∷ [];
         led = event.led;
         pushes = λ h. subst (λ (n : ℕ). ArePushed n a.stages.items) (sym event.age) (since.pushes goes);
-        one = λ h. one-quiet a.ahead (heard_at FromBytes ToSink (count_in shape) 0 e) (behind_at 0 realm.slots) (behind_at 0 a.realm.slots) (quiet 0 (omega arith)) (event.short 0 (omega arith)) (since.one h);
+        one = λ h. one-quiet a.ahead (hears_in shape 0 e) (behind_at 0 realm.slots) (behind_at 0 a.realm.slots) (quiet 0 (omega arith)) (event.short 0 (omega arith)) (since.one h);
         went = went-rests shape a was m p q gained (going-stays a was goes) since.led.is_of.stages (record { realm = realm; stopped = a.stopped; is = refl })
             (λ k less. unheard-lies shape past a realm e event goes (coming a k) k less (ap in_bytes (quiet k less)));
       }
@@ -282,7 +282,7 @@ module _ (shape : Shape) (past : List Entry) (a : Node) (realm : SeenRealm) (id 
       let all = subst (λ (cs : List (List ℕ)). AfterAll shape past' (length before) cs c b) answers.chunks (puts-all shape past' (length before) id i pushed c b less at.place led may puts) in
       let t = told (Bytes piece ∷ []) Open in
       on before after w at call t event heard v c h.0 is has.items stage by.chunks all (omega (arith, pushes))
-      (one-pushed before after w v piece (heard_at FromBytes ToSink (count_in shape) 0 (Host id call)) at.whole (b-items before after w at call t event heard v c h.0 is has.items stage all.only) live
+      (one-pushed before after w v piece (hears_in shape 0 (Host id call)) at.whole (b-items before after w at call t event heard v c h.0 is has.items stage all.only) live
       (ahead-now c b n all.only has.is) (heard 0 (omega arith)) (event.short 0 (omega arith))
       (one-from before after w at call t event heard v c h.0 is has.items stage by.chunks all))
       (pushed-goes shape a before after w goes since.led.is_of.stages at.whole b v (b-input before after w at call t event heard v c h.0 is has.items stage all.only)
@@ -302,7 +302,7 @@ module _ (shape : Shape) (past : List Entry) (a : Node) (realm : SeenRealm) (id 
       (over-on before after w at (Transform i (Bytes piece)) (told (Bytes piece ∷ []) Open) event (heard-transform before after w at (Bytes piece)) not_live)
   transforms piece event (NothingToPush none is) =
       subst (λ (n : Node). Handled shape a n m m p q) (sym is)
-      (no-stage (Host id (Transform i (Bytes piece))) event (λ k less. no-transform (count_in shape) k id i less (no-half none) (Bytes piece)))
+      (no-stage (Host id (Transform i (Bytes piece))) event (λ k less. no-transform shape k id i less (no-half none) (Bytes piece)))
 
   pub flushes : AfterEvent shape past a realm (Host id (Flush i)) → Flushes id i was b → Handled shape a b m m p q
   flushes event (FlushedOne before after w v flushed at live answers stage pushes c has puts) =
@@ -322,7 +322,7 @@ module _ (shape : Shape) (past : List Entry) (a : Node) (realm : SeenRealm) (id 
       ap (λ (x : State). x.work) (the-stage s z.stages.items before after v (sym (flush-same i s e) ∙ at.place) items first last u there) ∙ flushed-over v.work by.ending flushed.ending Fine answers.over answers.ending fine) in
       let all = subst (λ (cs : List (List ℕ)). AfterAll shape past' (length before) cs c b) answers.chunks (puts-all shape past' (length before) id i flushed c b less at.place led may puts) in
       on before after w at call t event heard v c a.ahead has.is has.items stage by.chunks all (omega (arith, pushes))
-      (one-ended before after w v t (heard_at FromBytes ToSink (count_in shape) 0 (Host id call)) b at.whole (b-items before after w at call t event heard v c a.ahead has.is has.items stage all.only)
+      (one-ended before after w v t (hears_in shape 0 (Host id call)) b at.whole (b-items before after w at call t event heard v c a.ahead has.is has.items stage all.only)
       (λ l. subst IsLive answers.over l) (λ u us e. ahead-now c b was all.only has.is) (heard 0 (omega arith)) (event.short 0 (omega arith))
       (one-from before after w at call t event heard v c a.ahead has.is has.items stage by.chunks all))
       (flushed-goes shape a before after w goes since.led.is_of.stages at.whole b v (b-input before after w at call t event heard v c a.ahead has.is has.items stage all.only)
@@ -334,4 +334,4 @@ module _ (shape : Shape) (past : List Entry) (a : Node) (realm : SeenRealm) (id 
   flushes event (NotFlushed before after w at not_live is) =
       subst (λ (n : Node). Handled shape a n m m p q) (sym is) (over-on before after w at (Flush i) (told [] Closed) event (heard-flush before after w at) not_live)
   flushes event (NothingToFlush none is) =
-      subst (λ (n : Node). Handled shape a n m m p q) (sym is) (no-stage (Host id (Flush i)) event (λ k less. no-flush (count_in shape) k id i less (no-half none)))
+      subst (λ (n : Node). Handled shape a n m m p q) (sym is) (no-stage (Host id (Flush i)) event (λ k less. no-flush shape k id i less (no-half none)))

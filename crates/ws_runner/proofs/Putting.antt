@@ -4,14 +4,14 @@ use Rattle.std.proofs.lemmas.List.Elements.{All-nil}
 use Rattle.ws_value.specs.declared.ids.HostId.{HostId}
 use Rattle.ws_value.specs.declared.value.Value.{Value}
 use Rattle.ws_value.specs.declared.value.Value.TheVariants.{Bytes}
-use Rattle.ws_runner.specs.Shape.{Shape, count_in}
+use Rattle.ws_runner.specs.Shape.{Shape, count_in, enters_in}
 use Rattle.ws_flow.specs.Told.{Open, Told, told, then_told, IsShortOf}
 use Rattle.ws_flow.proofs.Told.{then_empty, short_refl, short_trans}
 use Rattle.ws_steps.specs.declared.calls.Answer.{Answer}
 use Rattle.ws_steps.specs.declared.calls.Call.{Call}
 use Rattle.ws_steps.specs.declared.calls.Call.TheVariants.{Settle}
 use Rattle.ws_steps.specs.Run.{Entry}
-use Rattle.ws_chain_laws.specs.Chain.{FromBytes, source_of, behind_at, call_enters}
+use Rattle.ws_chain_laws.specs.Chain.{source_of, behind_at}
 use Rattle.ws_chain_laws.specs.Nodes.{only_at}
 use Rattle.ws_chain_laws.proofs.Nodes.{each_nodes_call_brings}
 use Rattle.ws_link_laws.specs.Link.{silence}
@@ -45,7 +45,7 @@ pub record AfterQuiet (shape : Shape) (past : List Entry) (a b : Node) : Type 0 
   pub before : b.stopped ≡ None → a.stopped ≡ None
   pub older : b.stopped ≡ None → a.realm.slots.age < b.realm.slots.age
 
-pub asks-quietly : (shape : Shape) (past : List Entry) (a b : Node) (c : Call) → ((k : ℕ) → call_enters FromBytes k c ≡ silence) → Led shape past a → MayAsk shape past a c → Asks c a b → AfterQuiet shape past a b
+pub asks-quietly : (shape : Shape) (past : List Entry) (a b : Node) (c : Call) → ((k : ℕ) → enters_in shape k c ≡ silence) → Led shape past a → MayAsk shape past a c → Asks c a b → AfterQuiet shape past a b
 asks-quietly shape past a b c quiet led may asks =
     let after = since-asks shape past a b c led may asks in
     record {
@@ -72,8 +72,8 @@ quiet-then shape past a b c first second =
       older = λ e. let f = first.older (second.before e) in let g = second.older e in omega arith;
     }
 
-pub settle-quiet : (id : HostId) (x : Answer) (k : ℕ) → call_enters FromBytes k (Settle id x) ≡ silence
-settle-quiet id x k = (each_nodes_call_brings FromBytes k).settle id x
+pub settle-quiet : (shape : Shape) (id : HostId) (x : Answer) (k : ℕ) → enters_in shape k (Settle id x) ≡ silence
+settle-quiet shape id x k = (each_nodes_call_brings shape.origin k).settle id x
 
 -- chunks that are put out into a link behind the first
 
@@ -90,13 +90,13 @@ module _ (shape : Shape) (m : ℕ) (less : suc m ≤ count_in shape) where
   may-enqueue : (past : List Entry) (a : Node) (piece : List ℕ) → MayAsk shape past a (enqueues (source_of (suc m)) piece)
   may-enqueue past a piece = record { is_own = tt; failed = All-nil (IsCause a); closes = λ id e c. absurd (cc); flushes = λ id i e c first last w at. absurd (cc) }
 
-  brings : (piece : List ℕ) (k : ℕ) → call_enters FromBytes k (enqueues (source_of (suc m)) piece) ≡ only_at (suc m) (told (Bytes piece ∷ []) Open) k
-  brings piece k = (each_nodes_call_brings FromBytes k).enqueue (suc m) (Bytes piece)
+  brings : (piece : List ℕ) (k : ℕ) → enters_in shape k (enqueues (source_of (suc m)) piece) ≡ only_at (suc m) (told (Bytes piece ∷ []) Open) k
+  brings piece k = (each_nodes_call_brings shape.origin k).enqueue (suc m) (Bytes piece)
 
-  brings-there : (piece : List ℕ) → call_enters FromBytes (suc m) (enqueues (source_of (suc m)) piece) ≡ told (Bytes piece ∷ []) Open
+  brings-there : (piece : List ℕ) → enters_in shape (suc m) (enqueues (source_of (suc m)) piece) ≡ told (Bytes piece ∷ []) Open
   brings-there piece = brings piece (suc m) ∙ (let e : nat_eq (suc m) (suc m) ≡ true = alike (suc m) in rw e refl)
 
-  brings-elsewhere : (piece : List ℕ) (k : ℕ) → k ≢ suc m → call_enters FromBytes k (enqueues (source_of (suc m)) piece) ≡ silence
+  brings-elsewhere : (piece : List ℕ) (k : ℕ) → k ≢ suc m → enters_in shape k (enqueues (source_of (suc m)) piece) ≡ silence
   brings-elsewhere piece k other = brings piece k ∙ (let e : nat_eq k (suc m) ≡ false = unlike k (suc m) other in rw e refl)
 
   not_first : 0 ≢ suc m

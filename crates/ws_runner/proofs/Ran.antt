@@ -1,5 +1,5 @@
 -- A realm to which one more call, job or event of its node led.
-use Rattle.std.proofs.Common.{◌≡◌, ◌≤◌, ℕ, true, false, List, [], ◌∷◌, ◌++◌, refl, sym, ap, ◌∙◌, subst, append-nil, append_assoc}
+use Rattle.std.proofs.Common.{◌≡◌, ◌≤◌, ℕ, false, List, [], ◌∷◌, ◌++◌, refl, sym, ap, ◌∙◌, subst, append-nil, append_assoc}
 use Rattle.ws_value.specs.declared.ids.PromiseId.{PromiseId}
 use Rattle.ws_value.specs.declared.ids.StreamId.{StreamId}
 use Rattle.ws_steps.specs.declared.calls.Call.{Call}
@@ -10,13 +10,13 @@ use Rattle.ws_steps.specs.Slots.{Slots, empty, byte_at}
 use Rattle.ws_reason_laws.specs.Origins.{through_of, through}
 use Rattle.ws_reason_laws.proofs.Brought.{through-append}
 use Rattle.ws_reason_laws.proofs.Quiet.{finish-none}
-use Rattle.ws_chain_laws.specs.Chain.{FromBytes, ToSink, IsChain, source_of}
+use Rattle.ws_chain_laws.specs.Chain.{Origin, Target, IsChain, source_of}
 use Rattle.ws_chain_laws.specs.Runs.{IsNodes}
 use Rattle.ws_chain_laws.proofs.Keeps.{each_call_keeps_chain, each_job_keeps_chain, each_event_keeps_chain}
 use Rattle.ws_chain_laws.proofs.Links.{link-at}
-use Rattle.ws_chain_laws.proofs.Portless.{IsPortless, ArePortless, run-portless}
+use Rattle.ws_chain_laws.proofs.Portless.{ArePortless, run-portless}
 use Rattle.ws_chain_laws.proofs.Runs.{nodes-leave}
-use Rattle.ws_chain_laws.proofs.Teeless.{IsTeeless, AreTeeless, run-teeless}
+use Rattle.ws_chain_laws.proofs.Teeless.{AreTeeless, run-teeless}
 use Rattle.ws_runner.specs.Ran.{IsOwn, IsOwnEntry, HasRun, PipeEnds, IsPiped}
 use Rattle.ws_runner.specs.Shape.{Shape, count_in}
 use Rattle.ws_runner.proofs.Entries.{run-snoc}
@@ -52,36 +52,38 @@ own-portless n Worked is = tt
 own-portless n Heard is = tt
 
 -- the source of a link is bare where it is a byte stream
-no-part : (n : ℕ) (s : Slots) → IsChain FromBytes ToSink n s → (k : ℕ) → k ≤ n → has_part (byte_at (source_of k) s).descriptors ≡ false
-no-part n s c k l = let bare = (link-at FromBytes ToSink n s c k l).link.bare in rw bare.descriptors refl
+no-part : (o : Origin) (t : Target) (n : ℕ) (s : Slots) → IsChain o t n s → (k : ℕ) → k ≤ n → has_part (byte_at (source_of k) s).descriptors ≡ false
+no-part o t n s c k l = let bare = (link-at o t n s c k l).link.bare in rw bare.descriptors refl
 
-own-quiet : (n : ℕ) (c : Call) (s : Slots) → IsChain FromBytes ToSink n s → IsOwn n c → through_of c s ≡ []
-own-quiet n (Settle h answer) s w is = refl
-own-quiet n (Enqueue i v) s w is = refl
-own-quiet n (Finish i) s w is = subst (λ (j : StreamId). through_of (Finish j) s ≡ []) (sym is.2) (finish-none (source_of is.0) s (no-part n s w is.0 is.1))
-own-quiet n (Fail i reason) s w is = refl
-own-quiet n (Trigger a reason) s w is = refl
-own-quiet n _ s w is = absurd is
+own-quiet : (o : Origin) (t : Target) (n : ℕ) (c : Call) (s : Slots) → IsChain o t n s → IsOwn n c → through_of c s ≡ []
+own-quiet o t n (Settle h answer) s w is = refl
+own-quiet o t n (Enqueue i v) s w is = refl
+own-quiet o t n (Finish i) s w is = subst (λ (j : StreamId). through_of (Finish j) s ≡ []) (sym is.2) (finish-none (source_of is.0) s (no-part o t n s w is.0 is.1))
+own-quiet o t n (Fail i reason) s w is = refl
+own-quiet o t n (Trigger a reason) s w is = refl
+own-quiet o t n _ s w is = absurd is
 
-step-quiet : (n : ℕ) (x : Entry) (s : Slots) → IsChain FromBytes ToSink n s → IsOwnEntry n x → through (x ∷ []) s ≡ []
-step-quiet n (Called c) s w is = append-nil (through_of c s) ∙ own-quiet n c s w is
-step-quiet n Worked s w is = refl
-step-quiet n Heard s w is = refl
+step-quiet : (o : Origin) (t : Target) (n : ℕ) (x : Entry) (s : Slots) → IsChain o t n s → IsOwnEntry n x → through (x ∷ []) s ≡ []
+step-quiet o t n (Called c) s w is = append-nil (through_of c s) ∙ own-quiet o t n c s w is
+step-quiet o t n Worked s w is = refl
+step-quiet o t n Heard s w is = refl
 
-step-wired : (n : ℕ) (x : Entry) (s : Slots) → IsChain FromBytes ToSink n s → IsOwnEntry n x → IsChain FromBytes ToSink n (step s x)
-step-wired n (Called c) s w is = (each_call_keeps_chain FromBytes ToSink n s c w (nodes-leave n c (own-nodes n c is))).chain
-step-wired n Worked s w is = (each_job_keeps_chain FromBytes ToSink n s w).chain
-step-wired n Heard s w is = (each_event_keeps_chain FromBytes ToSink n s w).chain
+step-wired : (o : Origin) (t : Target) (n : ℕ) (x : Entry) (s : Slots) → IsChain o t n s → IsOwnEntry n x → IsChain o t n (step s x)
+step-wired o t n (Called c) s w is = (each_call_keeps_chain o t n s c w (nodes-leave n c (own-nodes n c is))).chain
+step-wired o t n Worked s w is = (each_job_keeps_chain o t n s w).chain
+step-wired o t n Heard s w is = (each_event_keeps_chain o t n s w).chain
 
 pub ran-longer : (shape : Shape) (past : List Entry) (x : Entry) (s z : Slots) → HasRun shape past s → z ≡ step s x → IsOwnEntry (count_in shape) x → HasRun shape (past ++ x ∷ []) z
 ran-longer shape past x s z r e own =
     let n = count_in shape in
+    let o = shape.origin in
+    let t = shape.target in
     record {
       slots = e ∙ (ap (λ (q : Slots). step q x) r.slots ∙ sym (run-snoc past x empty));
-      wired = subst (IsChain FromBytes ToSink n) (sym e) (step-wired n x s r.wired own);
+      wired = subst (IsChain o t n) (sym e) (step-wired o t n x s r.wired own);
       quiet =
           through-append past (x ∷ []) empty
-          ∙ (ap (λ q. q ++ through (x ∷ []) (run past empty)) r.quiet ∙ subst (λ (q : Slots). through (x ∷ []) q ≡ []) r.slots (step-quiet n x s r.wired own));
+          ∙ (ap (λ q. q ++ through (x ∷ []) (run past empty)) r.quiet ∙ subst (λ (q : Slots). through (x ∷ []) q ≡ []) r.slots (step-quiet o t n x s r.wired own));
       teeless = subst (λ (q : Slots). q.tees ≡ []) (sym e) (run-teeless (x ∷ []) s (own-teeless n x own) r.teeless);
       portless = subst (λ (q : Slots). q.ports ≡ []) (sym e) (run-portless (x ∷ []) s (own-portless n x own) r.portless);
     }

@@ -1,5 +1,5 @@
 -- What a node does as it reads its input.
-use Rattle.std.proofs.Common.{◌≡◌, ◌+◌, ◌-◌, ◌≤◌, ◌<◌, ℕ, zero, suc, Bool, true, false, List, [], ◌∷◌, ◌++◌, length, Option, Some, None, Result, Ok, Err, refl, sym, ap, ◌∙◌, subst, append-nil, append_assoc, arith}
+use Rattle.std.proofs.Common.{◌≡◌, ◌+◌, ◌-◌, ◌≤◌, ◌<◌, ℕ, zero, suc, Bool, true, false, List, [], ◌∷◌, ◌++◌, length, Option, Some, None, Result, Ok, Err, refl, sym, ap, ◌∙◌, subst, append-nil, arith}
 use Rattle.std.specs.List.{concat, All}
 use Rattle.std.specs.Prelude.{nat_eq, nat_lt, slice_get}
 use Rattle.std.proofs.lemmas.Bool.Decides.{nat_tests}
@@ -10,7 +10,7 @@ use Rattle.ws_value.specs.declared.ids.StreamId.{StreamId}
 use Rattle.ws_value.specs.declared.value.Plain.TheVariants.{Fault as FaultReason}
 use Rattle.ws_value.specs.declared.value.Value.{Value}
 use Rattle.ws_value.specs.declared.value.Value.TheVariants.{Bytes, Plain as PlainValue}
-use Rattle.ws_runner.specs.Shape.{Shape, count_in}
+use Rattle.ws_runner.specs.Shape.{Shape, count_in, enters_in}
 use Rattle.ws_flow.specs.Parts.{AtWork, Goes}
 use Rattle.ws_flow.specs.Stages.{machines}
 use Rattle.ws_flow.specs.Steps.{parts_at, behind_of}
@@ -30,9 +30,9 @@ use Rattle.ws_steps.specs.declared.calls.HostCall.{HostCall}
 use Rattle.ws_steps.specs.declared.calls.HostCall.TheVariants.{Pull}
 use Rattle.ws_steps.specs.Run.{Entry}
 use Rattle.ws_host_laws.specs.HostCalls.{called, settles_well}
-use Rattle.ws_link_laws.specs.Link.{silence}
-use Rattle.ws_chain_laws.specs.Chain.{FromBytes, ToSink, behind_at, call_enters}
-use Rattle.ws_chain_laws.specs.Nodes.{only_at}
+use Rattle.ws_link_laws.specs.Link.{lets_in, silence}
+use Rattle.ws_chain_laws.specs.Chain.{Origin, FromBytes, giver, behind_at}
+use Rattle.ws_chain_laws.specs.Nodes.{finishes, only_at}
 use Rattle.ws_chain_laws.proofs.Nodes.{each_nodes_call_brings}
 use Rattle.ws_realm.specs.declared.realm.Why.{Why}
 use Rattle.ws_realm.specs.declared.realm.Why.TheVariants.{NoMemory}
@@ -114,8 +114,8 @@ record Both (shape : Shape) (past : List Entry) (c : Call) (n b : Node) : Type 0
   pub more : List Entry
   pub led : Led shape more b
   pub only : OnlyRealm n b
-  pub short : (d : ℕ → Told (List ℕ)) (k : ℕ) → k ≤ count_in shape → IsShortOf (lies d b k) (lies (λ j. then_told (in_bytes (call_enters FromBytes j c)) (d j)) n k)
-  pub one : (m : ℕ) → OneAtMost m (then_told (behind_at 0 n.realm.slots) (call_enters FromBytes 0 c)).items → OneAtMost m (behind_at 0 b.realm.slots).items
+  pub short : (d : ℕ → Told (List ℕ)) (k : ℕ) → k ≤ count_in shape → IsShortOf (lies d b k) (lies (λ j. then_told (in_bytes (enters_in shape j c)) (d j)) n k)
+  pub one : (m : ℕ) → OneAtMost m (then_told (behind_at 0 n.realm.slots) (enters_in shape 0 c)).items → OneAtMost m (behind_at 0 b.realm.slots).items
   pub older : b.stopped ≡ None → n.realm.slots.age ≤ b.realm.slots.age
 
 going-on : (c : Call) (a b : Node) → Asks c a b → b.stopped ≡ None → a.stopped ≡ None
@@ -124,12 +124,12 @@ going-on c a b (Refused why stops is) e = let f : b.stopped ≡ Some why = ap (�
 
 -- the settling brings nothing
 settled-short : (shape : Shape) (mid b : Node) (id : HostId) (d : ℕ → Told (List ℕ)) (k : ℕ)
-    → IsShortOf (lies d b k) (lies (λ j. then_told (in_bytes (call_enters FromBytes j (settles id))) (d j)) mid k) → IsShortOf (lies d b k) (lies d mid k)
+    → IsShortOf (lies d b k) (lies (λ j. then_told (in_bytes (enters_in shape j (settles id))) (d j)) mid k) → IsShortOf (lies d b k) (lies d mid k)
 settled-short shape mid b id d k h =
-    subst (λ (t : Told Value). IsShortOf (lies d b k) (lies (λ j. then_told (in_bytes t) (d j)) mid k)) ((each_nodes_call_brings FromBytes k).settle id AnswerOk) h
+    subst (λ (t : Told Value). IsShortOf (lies d b k) (lies (λ j. then_told (in_bytes t) (d j)) mid k)) ((each_nodes_call_brings shape.origin k).settle id AnswerOk) h
 
-settled-one : (x : Told Value) (c : Call) (m : ℕ) → call_enters FromBytes 0 c ≡ silence → OneAtMost m x.items → OneAtMost m (then_told x (call_enters FromBytes 0 c)).items
-settled-one x c m e o = subst (λ (q : Told Value). OneAtMost m q.items) (sym (ap (λ q. then_told x q) e ∙ then_empty x)) o
+settled-one : (shape : Shape) (x : Told Value) (c : Call) (m : ℕ) → enters_in shape 0 c ≡ silence → OneAtMost m x.items → OneAtMost m (then_told x (enters_in shape 0 c)).items
+settled-one shape x c m e o = subst (λ (q : Told Value). OneAtMost m q.items) (sym (ap (λ q. then_told x q) e ∙ then_empty x)) o
 
 both : (shape : Shape) (past : List Entry) (n mid b : Node) (c : Call) (id : HostId) (i : StreamId) → slice_get (called past) id.0 ≡ Some (Pull i) → Led shape past n
     → MayAsk shape past n c → Asks c n mid → Asks (settles id) mid b → Both shape past c n b
@@ -141,12 +141,21 @@ both shape past n mid b c id i pull led may asks settles_it =
       led = second.led;
       only = only-then n mid b first.only second.only;
       short = λ d k less. short_trans _ _ _ (settled-short shape mid b id d k (second.short d k less)) (first.short d k less);
-      one = λ m o. second.one m (settled-one (behind_at 0 mid.realm.slots) (settles id) m ((each_nodes_call_brings FromBytes 0).settle id AnswerOk) (first.one m o));
+      one = λ m o. second.one m (settled-one shape (behind_at 0 mid.realm.slots) (settles id) m ((each_nodes_call_brings shape.origin 0).settle id AnswerOk) (first.one m o));
       older = λ going.
           let one = second.older going in
           let other = first.older (going-on (settles id) mid b settles_it going) in
           omega arith;
     }
+
+-- what a read brings to its link: the end of the input, or bytes
+
+finish-at : (shape : Shape) → shape.origin ≡ FromBytes → (k : ℕ) → enters_in shape k (Finish source) ≡ only_at 0 (told [] Closed) k
+finish-at shape from k = (each_nodes_call_brings shape.origin k).finish ∙ ap (λ (o : Origin). only_at 0 (finishes o) k) from
+
+bytes-at : (shape : Shape) → shape.origin ≡ FromBytes → (x : ℕ) (rest : List ℕ) (k : ℕ) → enters_in shape k (Enqueue source (Bytes (x ∷ rest))) ≡ only_at 0 (told (Bytes (x ∷ rest) ∷ []) MayCome) k
+bytes-at shape from x rest k =
+    (each_nodes_call_brings shape.origin k).enqueue 0 (Bytes (x ∷ rest)) ∙ ap (λ (o : Origin). only_at 0 (lets_in (giver o 0) (Bytes (x ∷ rest))) k) from
 
 -- what a read is to the node
 
@@ -165,22 +174,22 @@ pushed-on : (m n : ℕ) (ws : List State) → m ≤ n → ArePushed m ws → Are
 pushed-on m n ws less h k d within = let few = h k d within in omega arith
 
 -- what lies at each place, where this call brings what was read, or nothing at all, to the first
-enters-at : (a : Node) (i : Input) (c : Call) (read : Told (List ℕ)) (d : ℕ → Told (List ℕ)) (b : Node) → a.stopped ≡ None → a.input ≡ input.Open
-    → IsShortOf (then_told (in_bytes (call_enters FromBytes 0 c)) (d 0)) read
-    → IsShortOf (lies d b 0) (lying_by a.stopped (then_told (in_bytes (behind_at 0 a.realm.slots)) (then_told (in_bytes (call_enters FromBytes 0 c)) (d 0))))
+enters-at : (shape : Shape) (a : Node) (i : Input) (c : Call) (read : Told (List ℕ)) (d : ℕ → Told (List ℕ)) (b : Node) → a.stopped ≡ None → a.input ≡ input.Open
+    → IsShortOf (then_told (in_bytes (enters_in shape 0 c)) (d 0)) read
+    → IsShortOf (lies d b 0) (lying_by a.stopped (then_told (in_bytes (behind_at 0 a.realm.slots)) (then_told (in_bytes (enters_in shape 0 c)) (d 0))))
     → IsShortOf (lies d b 0) (then_told (lies_in a 0) read)
-enters-at a i c read d b goes was_open came h =
+enters-at shape a i c read d b goes was_open came h =
     let x : Told (List ℕ) = in_bytes (behind_at 0 a.realm.slots) in
-    let y : Told (List ℕ) = then_told (in_bytes (call_enters FromBytes 0 c)) (d 0) in
+    let y : Told (List ℕ) = then_told (in_bytes (enters_in shape 0 c)) (d 0) in
     let lay : lies_in a 0 ≡ x = ap (λ (w : Option Why). lying_by w (then_told x (lost_by a.input))) goes ∙ (ap (λ (i : Input). then_told x (lost_by i)) was_open ∙ then_empty x) in
     short_trans (lies d b 0) (then_told x y) (then_told (lies_in a 0) read)
     (subst (λ (w : Option Why). IsShortOf (lies d b 0) (lying_by w (then_told x y))) goes h)
     (short_as _ _ _ (ap (λ q. then_told q read) (sym lay)) (short_left x y read came))
 
-passes-at : (a : Node) (c : Call) (j : ℕ) (d : ℕ → Told (List ℕ)) (b : Node) → d (suc j) ≡ coming_behind j a.stages.items → call_enters FromBytes (suc j) c ≡ silence
-    → IsShortOf (lies d b (suc j)) (lying_by a.stopped (then_told (in_bytes (behind_at (suc j) a.realm.slots)) (then_told (in_bytes (call_enters FromBytes (suc j) c)) (d (suc j)))))
+passes-at : (shape : Shape) (a : Node) (c : Call) (j : ℕ) (d : ℕ → Told (List ℕ)) (b : Node) → d (suc j) ≡ coming_behind j a.stages.items → enters_in shape (suc j) c ≡ silence
+    → IsShortOf (lies d b (suc j)) (lying_by a.stopped (then_told (in_bytes (behind_at (suc j) a.realm.slots)) (then_told (in_bytes (enters_in shape (suc j) c)) (d (suc j)))))
     → IsShortOf (lies d b (suc j)) (lies_in a (suc j))
-passes-at a c j d b same silent h =
+passes-at shape a c j d b same silent h =
     subst (λ (q : Told (List ℕ)). IsShortOf (lies d b (suc j)) (lying_by a.stopped (then_told (in_bytes (behind_at (suc j) a.realm.slots)) q)))
     (ap (λ (q : Told Value). then_told (in_bytes q) (d (suc j))) silent ∙ same) h
 
@@ -216,9 +225,9 @@ module _ (wf : ℕ) (finished : Option Bool) (p : List ℕ → Type 0) (shape : 
 
     -- what was read came in by this call
     took : (taken ahead : ℕ) (i : Input) (c : Call) (mid : Node) (read : Told (List ℕ)) → Counts a.most taken ahead i → MayAsk shape past (answering taken ahead i a) c
-        → Asks c (answering taken ahead i a) mid → Asks (settles id) mid b → ((j : ℕ) → call_enters FromBytes (suc j) c ≡ silence)
-        → IsShortOf (then_told (in_bytes (call_enters FromBytes 0 c)) (lost_by i)) read
-        → ((behind_at 0 a.realm.slots).items ≡ [] → OneAtMost ahead (then_told (behind_at 0 a.realm.slots) (call_enters FromBytes 0 c)).items)
+        → Asks c (answering taken ahead i a) mid → Asks (settles id) mid b → ((j : ℕ) → enters_in shape (suc j) c ≡ silence)
+        → IsShortOf (then_told (in_bytes (enters_in shape 0 c)) (lost_by i)) read
+        → ((behind_at 0 a.realm.slots).items ≡ [] → OneAtMost ahead (then_told (behind_at 0 a.realm.slots) (enters_in shape 0 c)).items)
         → Fed old new (concat read.items) → All (λ c. length c ≤ 4096) read.items → taken ≡ a.taken + length (concat read.items) → length (concat read.items) ≤ ahead
         → InputGoes a.input i read m₀ m₁ → Handled shape a b m₀ m₁ p p
     took taken ahead i c mid read counts may asks settles_it silent came one fed short counted had goes_in =
@@ -231,7 +240,7 @@ module _ (wf : ℕ) (finished : Option Bool) (p : List ℕ → Type 0) (shape : 
         let input_is : b.input ≡ i = same.input in
         let coming_is : (j : ℕ) → coming b (suc j) ≡ coming_behind j a.stages.items = λ j. ap (λ ws. coming_behind j ws) items in
         let first : IsShortOf (lies_in b 0) (then_told (lies_in a 0) read) =
-        enters-at a i c read (coming b) b goes was_open (subst (λ q. IsShortOf (then_told (in_bytes (call_enters FromBytes 0 c)) (lost_by q)) read) (sym input_is) came)
+        enters-at shape a i c read (coming b) b goes was_open (subst (λ q. IsShortOf (then_told (in_bytes (enters_in shape 0 c)) (lost_by q)) read) (sym input_is) came)
         (h.short (coming b) 0 (omega arith)) in
         record {
           past = h.more;
@@ -249,7 +258,7 @@ module _ (wf : ℕ) (finished : Option Bool) (p : List ℕ → Type 0) (shape : 
             written = (refl, refl);
             short = short;
             goes = reads-goes shape a b read s.led.is_of.stages (ap (λ (q : Node). works_in q) h.only.is) first
-                (λ j less. passes-at a c j (coming b) b (coming_is j) (silent j) (h.short (coming b) (suc j) less));
+                (λ j less. passes-at shape a c j (coming b) b (coming_is j) (silent j) (h.short (coming b) (suc j) less));
             counted = taken_is ∙ counted;
             ahead = λ e. omega arith;
             input = subst (λ q. InputGoes a.input q read m₀ m₁) (sym input_is) goes_in;
@@ -275,9 +284,9 @@ module _ (wf : ℕ) (finished : Option Bool) (p : List ℕ → Type 0) (shape : 
         took a.taken a.ahead input.Ended (Finish source) c (told [] Closed)
         (record { limited = omega arith; bound = omega arith; within = λ e. fewer; beyond = λ e. absurd (cc); piece = omega arith; failed = λ e. absurd (cc) })
         (record { is_own = (0, omega arith, refl); failed = All-nil (IsCause (answering a.taken a.ahead input.Ended a)); closes = λ i e. absurd (cc); flushes = λ i j e. absurd (cc) })
-        asks settles_it (λ j. (each_nodes_call_brings FromBytes (suc j)).finish ∙ not-first (told [] Closed) j)
-        (subst (λ (t : Told Value). IsShortOf (then_told (in_bytes t) (lost_by input.Ended)) (told [] Closed)) (sym (each_nodes_call_brings FromBytes 0).finish) (refl, refl))
-        (λ e. subst (λ q. OneAtMost a.ahead (then_told (behind_at 0 a.realm.slots) q).items) (sym (each_nodes_call_brings FromBytes 0).finish) (one-closes a.ahead (behind_at 0 a.realm.slots) Closed e))
+        asks settles_it (λ j. finish-at shape s.led.is_of.from (suc j) ∙ not-first (told [] Closed) j)
+        (subst (λ (t : Told Value). IsShortOf (then_told (in_bytes t) (lost_by input.Ended)) (told [] Closed)) (sym (finish-at shape s.led.is_of.from 0)) (refl, refl))
+        (λ e. subst (λ q. OneAtMost a.ahead (then_told (behind_at 0 a.realm.slots) q).items) (sym (finish-at shape s.led.is_of.from 0)) (one-closes a.ahead (behind_at 0 a.realm.slots) Closed e))
         piece.moved (All-nil (λ c. length c ≤ 4096)) (omega arith) (omega arith)
         (rw was_open (refl, piece.calm, (piece.end refl).1, IsEmpty-kept old new [] (piece.end refl).0 piece.moved))
 
@@ -294,9 +303,9 @@ module _ (wf : ℕ) (finished : Option Bool) (p : List ℕ → Type 0) (shape : 
         took a.taken a.ahead input.Failed (Fail source (FaultReason ReadFault)) c (told [] Lost)
         (record { limited = omega arith; bound = omega arith; within = λ e. fewer; beyond = λ e. absurd (cc); piece = omega arith; failed = λ e. written })
         (record { is_own = (0, omega arith, refl); failed = All-cons (IsCause n) (FaultReason ReadFault) [] refl (All-nil (IsCause n)); closes = λ i e. absurd (cc); flushes = λ i j e. absurd (cc) })
-        asks settles_it (λ j. (each_nodes_call_brings FromBytes (suc j)).fail source (FaultReason ReadFault))
-        (subst (λ (t : Told Value). IsShortOf (then_told (in_bytes t) (lost_by input.Failed)) (told [] Lost)) (sym ((each_nodes_call_brings FromBytes 0).fail source (FaultReason ReadFault))) ([], refl))
-        (λ e. subst (λ q. OneAtMost a.ahead (then_told (behind_at 0 a.realm.slots) q).items) (sym ((each_nodes_call_brings FromBytes 0).fail source (FaultReason ReadFault)))
+        asks settles_it (λ j. (each_nodes_call_brings shape.origin (suc j)).fail source (FaultReason ReadFault))
+        (subst (λ (t : Told Value). IsShortOf (then_told (in_bytes t) (lost_by input.Failed)) (told [] Lost)) (sym ((each_nodes_call_brings shape.origin 0).fail source (FaultReason ReadFault))) ([], refl))
+        (λ e. subst (λ q. OneAtMost a.ahead (then_told (behind_at 0 a.realm.slots) q).items) (sym ((each_nodes_call_brings shape.origin 0).fail source (FaultReason ReadFault)))
         (one-closes a.ahead (behind_at 0 a.realm.slots) MayCome e))
         fed (All-nil (λ c. length c ≤ 4096)) (omega arith) (omega arith) (rw was_open (refl, rose, kept))
 
@@ -326,10 +335,10 @@ module _ (wf : ℕ) (finished : Option Bool) (p : List ℕ → Type 0) (shape : 
           took (a.taken + length (x ∷ rest)) (length (x ∷ rest)) input.TooLong (Fail source (FaultReason TooMuch)) c (told ((x ∷ rest) ∷ []) Lost)
           (record { limited = omega arith; bound = omega arith; within = λ e. absurd (e refl); beyond = λ e. more; piece = omega arith; failed = λ e. absurd (cc) })
           (record { is_own = (0, omega arith, refl); failed = All-cons (IsCause n) (FaultReason TooMuch) [] refl (All-nil (IsCause n)); closes = λ i e. absurd (cc); flushes = λ i j e. absurd (cc) })
-          asks settles_it (λ j. (each_nodes_call_brings FromBytes (suc j)).fail source (FaultReason TooMuch))
-          (subst (λ (t : Told Value). IsShortOf (then_told (in_bytes t) (lost_by input.TooLong)) (told ((x ∷ rest) ∷ []) Lost)) (sym ((each_nodes_call_brings FromBytes 0).fail source (FaultReason TooMuch)))
+          asks settles_it (λ j. (each_nodes_call_brings shape.origin (suc j)).fail source (FaultReason TooMuch))
+          (subst (λ (t : Told Value). IsShortOf (then_told (in_bytes t) (lost_by input.TooLong)) (told ((x ∷ rest) ∷ []) Lost)) (sym ((each_nodes_call_brings shape.origin 0).fail source (FaultReason TooMuch)))
           ((x ∷ rest) ∷ [], refl))
-          (λ e. subst (λ q. OneAtMost (length (x ∷ rest)) (then_told (behind_at 0 a.realm.slots) q).items) (sym ((each_nodes_call_brings FromBytes 0).fail source (FaultReason TooMuch)))
+          (λ e. subst (λ q. OneAtMost (length (x ∷ rest)) (then_told (behind_at 0 a.realm.slots) q).items) (sym ((each_nodes_call_brings shape.origin 0).fail source (FaultReason TooMuch)))
           (one-closes (length (x ∷ rest)) (behind_at 0 a.realm.slots) MayCome e))
           fed_all one_short (omega arith) (omega arith) (rw was_open (refl, piece.calm, piece.before_end (omega arith)))
 
@@ -343,10 +352,10 @@ module _ (wf : ℕ) (finished : Option Bool) (p : List ℕ → Type 0) (shape : 
           took (a.taken + length (x ∷ rest)) (length (x ∷ rest)) a.input (Enqueue source (Bytes (x ∷ rest))) c (told ((x ∷ rest) ∷ []) MayCome)
           (record { limited = omega arith; bound = omega arith; within = λ e. within; beyond = λ e. let f = was_open in absurd (cc); piece = omega arith; failed = λ e. let f = was_open in absurd (cc) })
           (record { is_own = tt; failed = All-nil (IsCause (answering (a.taken + length (x ∷ rest)) (length (x ∷ rest)) a.input a)); closes = λ i e. absurd (cc); flushes = λ i j e. absurd (cc) })
-          asks settles_it (λ j. (each_nodes_call_brings FromBytes (suc j)).enqueue 0 (Bytes (x ∷ rest)) ∙ not-first (told (Bytes (x ∷ rest) ∷ []) MayCome) j)
-          (subst (λ (i : Input). IsShortOf (then_told (in_bytes (call_enters FromBytes 0 (Enqueue source (Bytes (x ∷ rest))))) (lost_by i)) (told ((x ∷ rest) ∷ []) MayCome)) (sym was_open)
-          (subst (λ (t : Told Value). IsShortOf (then_told (in_bytes t) nothing_yet) (told ((x ∷ rest) ∷ []) MayCome)) (sym ((each_nodes_call_brings FromBytes 0).enqueue 0 (Bytes (x ∷ rest)))) (refl, refl)))
-          (λ e. subst (λ q. OneAtMost (length (x ∷ rest)) (then_told (behind_at 0 a.realm.slots) q).items) (sym ((each_nodes_call_brings FromBytes 0).enqueue 0 (Bytes (x ∷ rest))))
+          asks settles_it (λ j. bytes-at shape s.led.is_of.from x rest (suc j) ∙ not-first (told (Bytes (x ∷ rest) ∷ []) MayCome) j)
+          (subst (λ (i : Input). IsShortOf (then_told (in_bytes (enters_in shape 0 (Enqueue source (Bytes (x ∷ rest))))) (lost_by i)) (told ((x ∷ rest) ∷ []) MayCome)) (sym was_open)
+          (subst (λ (t : Told Value). IsShortOf (then_told (in_bytes t) nothing_yet) (told ((x ∷ rest) ∷ []) MayCome)) (sym (bytes-at shape s.led.is_of.from x rest 0)) (refl, refl)))
+          (λ e. subst (λ q. OneAtMost (length (x ∷ rest)) (then_told (behind_at 0 a.realm.slots) q).items) (sym (bytes-at shape s.led.is_of.from x rest 0))
           (one-comes (length (x ∷ rest)) (x ∷ rest) (behind_at 0 a.realm.slots) e refl (omega arith)))
           fed_all one_short (omega arith) (omega arith)
           (subst (λ (i : Input). InputGoes i i (told ((x ∷ rest) ∷ []) MayCome) m₀ m₁) (sym was_open) (refl, piece.calm, piece.before_end (omega arith)))

@@ -98,7 +98,7 @@ pub puts-all : (shape : Shape) (past : List Entry) (m : ℕ) (id : HostId) (i : 
 puts-all shape past m id i p a b less at led may all =
     let x : Answer = answer_by i p.ending in
     let first = puts shape m less past p.chunks.items a all.between led (subst (λ s. Enqueues s p.chunks.items a all.between) at all.enqueued) in
-    let last = asks-quietly shape (past ++ first.more) all.between b (Settle id x) (settle-quiet id x) first.led (may first.more all.between first.only)
+    let last = asks-quietly shape (past ++ first.more) all.between b (Settle id x) (settle-quiet shape id x) first.led (may first.more all.between first.only)
     (subst (λ (c : Call). Asks c all.between b) (settles-as id i p.ending) all.ended) in
     record {
       more = first.more ++ last.more;

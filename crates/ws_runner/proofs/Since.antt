@@ -1,5 +1,5 @@
 -- A node stays one that its past led to, as its realm performs calls and jobs and its host hears of events.
-use Rattle.std.proofs.Common.{◌≡◌, ◌≢◌, ◌+◌, ◌*◌, ◌≤◌, ℕ, zero, suc, List, [], ◌∷◌, ◌++◌, length, Option, Some, None, refl, sym, ap, ◌∙◌, subst, append-nil, append_assoc, arith}
+use Rattle.std.proofs.Common.{◌≡◌, ◌≢◌, ◌+◌, ◌≤◌, ℕ, zero, suc, List, [], ◌∷◌, ◌++◌, length, Option, Some, None, refl, sym, ap, ◌∙◌, subst, append-nil, append_assoc, arith}
 use Rattle.std.specs.Prelude.{slice_get, All}
 use Rattle.std.proofs.lemmas.List.{length-map}
 use Rattle.std.proofs.lemmas.List.Elements.{All-nil, All-append, All-weaker}
@@ -12,14 +12,14 @@ use Rattle.ws_value.specs.declared.value.Plain.TheVariants as plain
 use Rattle.ws_value.specs.declared.value.Value.{Value}
 use Rattle.ws_value.specs.declared.value.Value.TheVariants.{Bytes}
 use Rattle.ws_flow.specs.declared.plan.Ending.TheVariants.{Fine}
-use Rattle.ws_runner.specs.Shape.{Shape, count_in}
+use Rattle.ws_runner.specs.Shape.{Shape, count_in, enters_in, hears_in}
 use Rattle.ws_flow.specs.Parts.{Over}
 use Rattle.ws_flow.specs.Steps.{coming_from}
 use Rattle.ws_flow.specs.Told.{Open as MayCome, Closed as ToldClosed, Told, told, then_told, IsShortOf}
 use Rattle.ws_flow.proofs.Told.{then_empty, short_refl, short_trans, short_as}
 use Rattle.ws_stages.specs.State.{State}
 use Rattle.ws_steps.specs.declared.calls.Call.{Call}
-use Rattle.ws_steps.specs.declared.calls.Call.TheVariants.{Enqueue, Finish, Fail, Trigger, Settle}
+use Rattle.ws_steps.specs.declared.calls.Call.TheVariants.{Enqueue}
 use Rattle.ws_steps.specs.declared.calls.Event.{Event}
 use Rattle.ws_steps.specs.declared.calls.Event.TheVariants.{Host, Settled, Signal, Post}
 use Rattle.ws_steps.specs.declared.calls.HostCall.{HostCall}
@@ -31,7 +31,7 @@ use Rattle.ws_laws.proofs.Ages.{called-age, each_age_counts}
 use Rattle.ws_host_laws.specs.HostCalls.{called, settles_well, AllEvents, IsItsCall}
 use Rattle.ws_host_laws.proofs.Called.{each_event_is_its_call}
 use Rattle.ws_link_laws.specs.Link.{silence}
-use Rattle.ws_chain_laws.specs.Chain.{FromBytes, ToSink, transform_of, source_of, behind_at, IsChain, call_enters, heard_at}
+use Rattle.ws_chain_laws.specs.Chain.{transform_of, source_of, behind_at, IsChain}
 use Rattle.ws_chain_laws.specs.Laws.{next_enters, next_heard, KeepsBehind}
 use Rattle.ws_chain_laws.specs.Outcomes.{JobBrings, Flushes, BringsNothing, BringsTheEnd}
 use Rattle.ws_chain_laws.proofs.Flushed.{each_end_was_flushed}
@@ -80,7 +80,7 @@ led-as : (shape : Shape) (past ys : List Entry) (n : Node) (realm : SeenRealm) (
     → realm.slots.age ≤ oldest → (stopped ≡ Some Spent → realm.slots.age ≡ oldest) → Led shape ys (record n { realm = realm; stopped = stopped })
 led-as shape past ys n realm stopped s ran piped failed closes flushes asked young spent =
     record {
-      is_of = record { fit = s.is_of.fit; stages = s.is_of.stages; sink = s.is_of.sink; most = s.is_of.most; signal = s.is_of.signal };
+      is_of = record { fit = s.is_of.fit; from = s.is_of.from; into = s.is_of.into; stages = s.is_of.stages; sink = s.is_of.sink; most = s.is_of.most; signal = s.is_of.signal };
       ran = ran;
       piped = piped;
       failed = All-weaker (IsCause n) (IsCause (record n { realm = realm; stopped = stopped })) (cause-stays n realm stopped) (failures ys) failed;
@@ -134,8 +134,8 @@ pub record AfterCall (shape : Shape) (past : List Entry) (c : Call) (a b : Node)
   pub more : List Entry
   pub led : Led shape (past ++ more) b
   pub only : OnlyRealm a b
-  pub short : (d : ℕ → Told (List ℕ)) (k : ℕ) → k ≤ count_in shape → IsShortOf (lies d b k) (lies (λ j. then_told (in_bytes (call_enters FromBytes j c)) (d j)) a k)
-  pub one : (m : ℕ) → OneAtMost m (then_told (behind_at 0 a.realm.slots) (call_enters FromBytes 0 c)).items → OneAtMost m (behind_at 0 b.realm.slots).items
+  pub short : (d : ℕ → Told (List ℕ)) (k : ℕ) → k ≤ count_in shape → IsShortOf (lies d b k) (lies (λ j. then_told (in_bytes (enters_in shape j c)) (d j)) a k)
+  pub one : (m : ℕ) → OneAtMost m (then_told (behind_at 0 a.realm.slots) (enters_in shape 0 c)).items → OneAtMost m (behind_at 0 b.realm.slots).items
   pub older : b.stopped ≡ None → b.realm.slots.age ≡ suc a.realm.slots.age
 
 -- a call
@@ -145,10 +145,10 @@ same_call c d e = grind arith
 
 -- what lies there after a call that was performed
 pub call-short : (shape : Shape) (past : List Entry) (a : Node) (realm : SeenRealm) (c : Call) → Led shape past a → IsOwn (count_in shape) c → realm.slots ≡ after_call c a.realm.slots
-    → (k : ℕ) → k ≤ count_in shape → IsShortOf (behind_at k realm.slots) (then_told (behind_at k a.realm.slots) (call_enters FromBytes k c))
+    → (k : ℕ) → k ≤ count_in shape → IsShortOf (behind_at k realm.slots) (then_told (behind_at k a.realm.slots) (enters_in shape k c))
 call-short shape past a realm c led own slots k l =
-    subst (λ q. IsShortOf (behind_at k q) (then_told (behind_at k a.realm.slots) (call_enters FromBytes k c))) (sym slots)
-    ((each_call_keeps_chain FromBytes ToSink (count_in shape) a.realm.slots c led.ran.wired (nodes-leave (count_in shape) c (own-nodes (count_in shape) c own))).short k l)
+    subst (λ q. IsShortOf (behind_at k q) (then_told (behind_at k a.realm.slots) (enters_in shape k c))) (sym slots)
+    ((each_call_keeps_chain shape.origin shape.target (count_in shape) a.realm.slots c led.ran.wired (nodes-leave (count_in shape) c (own-nodes (count_in shape) c own))).short k l)
 
 stops-spent : (n : Node) (why : Why) → Stops why n → (n.stopped ≡ Some Spent → n.realm.slots.age ≡ oldest) → Some why ≡ Some Spent → n.realm.slots.age ≡ oldest
 stops-spent n why (Before f) g e = g (f ∙ e)
@@ -171,7 +171,7 @@ since-asks shape past a b c led may (Performed realm slots young goes is) =
           (λ id e. may.closes id (same_call c (settles_well id) e)) (λ id i e. may.flushes id i (same_call c (settles_well id) e));
       only = record { realm = realm; stopped = a.stopped; is = refl };
       short = λ d k l. lying-both a.stopped _ _
-          (short-behind (behind_at k realm.slots) (behind_at k a.realm.slots) (call_enters FromBytes k c) (d k) (call-short shape past a realm c led may.is_own slots k l));
+          (short-behind (behind_at k realm.slots) (behind_at k a.realm.slots) (enters_in shape k c) (d k) (call-short shape past a realm c led may.is_own slots k l));
       one = λ m o. one-short m _ _ (call-short shape past a realm c led may.is_own slots 0 (omega arith)) o;
       older = λ e. one_more realm.slots.age a.realm.slots.age (ap (λ (q : Slots). q.age) slots ∙ called-age c a.realm.slots);
     })
@@ -181,8 +181,8 @@ since-asks shape past a b c led may (Refused why stops is) =
       more = [];
       led = subst (λ q. Led shape q (stopped_by why a)) (sym (append-nil past)) (led-stays shape past a a.realm (Some why) led refl (stops-spent a why stops led.spent));
       only = record { realm = a.realm; stopped = Some why; is = refl };
-      short = λ d k l. lost-short (lies (λ j. then_told (in_bytes (call_enters FromBytes j c)) (d j)) a k);
-      one = λ m o. one-before m (behind_at 0 a.realm.slots) (call_enters FromBytes 0 c) o;
+      short = λ d k l. lost-short (lies (λ j. then_told (in_bytes (enters_in shape j c)) (d j)) a k);
+      one = λ m o. one-before m (behind_at 0 a.realm.slots) (enters_in shape 0 c) o;
       older = λ e. absurd (cc);
     })
 
@@ -192,13 +192,13 @@ pub dropped : (shape : Shape) (past : List Entry) (a b : Node) (m : ℕ) (piece 
 dropped shape past a b m piece less led (Performed realm slots young goes is) not_done d e =
     let k : ℕ = suc m in
     let c : Call = Enqueue (source_of k) (Bytes piece) in
-    let at = link-at FromBytes ToSink (count_in shape) a.realm.slots led.ran.wired k less in
+    let at = link-at shape.origin shape.target (count_in shape) a.realm.slots led.ran.wired k less in
     let shut : (behind_at k a.realm.slots).mark ≢ MayCome =
     behind-mark k a.realm.slots
     (enqueue-shut (source_of k) (transform_of m) (Bytes piece) a.realm.slots at.link.source at.gives
     (λ f. not_done (record { going = goes; done = f; goes_on = ap (λ (n : Node). n.stopped) is ∙ goes }))) in
     let short : IsShortOf (behind_at k realm.slots) (behind_at k a.realm.slots) =
-    short_as (behind_at k realm.slots) (then_told (behind_at k a.realm.slots) (call_enters FromBytes k c)) _ (nothing-follows (behind_at k a.realm.slots) (call_enters FromBytes k c) shut)
+    short_as (behind_at k realm.slots) (then_told (behind_at k a.realm.slots) (enters_in shape k c)) _ (nothing-follows (behind_at k a.realm.slots) (enters_in shape k c) shut)
     (call-short shape past a realm c led tt slots k less) in
     subst (λ (n : Node). IsShortOf (lies d n k) (lies e a k)) (sym is)
     (lying-both a.stopped _ _ (short-ended (behind_at k realm.slots) (behind_at k a.realm.slots) (d k) (e k) shut short))
@@ -225,7 +225,7 @@ pub stages-count : (shape : Shape) (past : List Entry) (a : Node) → Led shape 
 stages-count shape past a led = sym (length-map a.stages.items (λ w. w.stage)) ∙ ap length led.is_of.stages
 
 job-brings : (shape : Shape) (past : List Entry) (a : Node) → Led shape past a → JobBrings (count_in shape) past
-job-brings shape past a led = each_end_was_flushed FromBytes ToSink (count_in shape) past (subst (IsChain FromBytes ToSink (count_in shape)) led.ran.slots led.ran.wired)
+job-brings shape past a led = each_end_was_flushed shape.origin shape.target (count_in shape) past (subst (IsChain shape.origin shape.target (count_in shape)) led.ran.slots led.ran.wired)
 
 -- a job brings nothing but an end that comes anyway
 brought : (shape : Shape) (past : List Entry) (a : Node) → Led shape past a → (k : ℕ) → k ≤ count_in shape
@@ -253,7 +253,7 @@ brought shape past a led k l = by-link k l
 
 -- nothing is brought to the source
 job-source : (shape : Shape) (past : List Entry) (a : Node) → Led shape past a
-    → KeepsBehind FromBytes ToSink (count_in shape) a.realm.slots (after_job a.realm.slots) (λ k. next_enters k (next_job a.realm.slots.promises))
+    → KeepsBehind shape.origin shape.target (count_in shape) a.realm.slots (after_job a.realm.slots) (λ k. next_enters k (next_job a.realm.slots.promises))
     → IsShortOf (behind_at 0 (after_job a.realm.slots)) (behind_at 0 a.realm.slots)
 job-source shape past a led keeps =
     let brings = job-brings shape past a led in
@@ -263,7 +263,7 @@ job-source shape past a led keeps =
 
 -- what lies on each link after one job
 job-short : (shape : Shape) (past : List Entry) (a : Node) → Led shape past a
-    → KeepsBehind FromBytes ToSink (count_in shape) a.realm.slots (after_job a.realm.slots) (λ k. next_enters k (next_job a.realm.slots.promises)) → (k : ℕ) → k ≤ count_in shape
+    → KeepsBehind shape.origin shape.target (count_in shape) a.realm.slots (after_job a.realm.slots) (λ k. next_enters k (next_job a.realm.slots.promises)) → (k : ℕ) → k ≤ count_in shape
     → IsShortOf (then_told (in_bytes (behind_at k (after_job a.realm.slots))) (coming a k)) (then_told (in_bytes (behind_at k a.realm.slots)) (coming a k))
 job-short shape past a led keeps k l =
     let now : Told Value = behind_at k (after_job a.realm.slots) in
@@ -297,7 +297,7 @@ jobs-go zero shape past a realm goes led e young = record {
 }
 jobs-go (suc n) shape past a realm goes led e young =
     let mid : SeenRealm = record { slots = after_job a.realm.slots; prepared = a.realm.prepared } in
-    let keeps = each_job_keeps_chain FromBytes ToSink (count_in shape) a.realm.slots led.ran.wired in
+    let keeps = each_job_keeps_chain shape.origin shape.target (count_in shape) a.realm.slots led.ran.wired in
     let older : mid.slots.age ≤ realm.slots.age = run-older (jobs_in_a_row n) mid.slots realm.slots e in
     let first : Led shape (past ++ Worked ∷ []) (with_realm mid a) =
     longer shape past Worked a mid led refl (omega (arith, older, young)) (goes-spent a (mid.slots.age ≡ oldest) goes) tt (All-nil (IsCause a)) (λ id f. cc) (λ id i f. cc) in
@@ -338,7 +338,7 @@ since-works shape past a b led works = works-by shape past a b led works a.stopp
 -- after an event, which is a call of the number that it tells
 pub record AfterEvent (shape : Shape) (past : List Entry) (a : Node) (realm : SeenRealm) (e : Event) : Type 0 where
   pub led : Led shape (past ++ Heard ∷ []) (with_realm realm a)
-  pub short : (k : ℕ) → k ≤ count_in shape → IsShortOf (then_told (heard_at FromBytes ToSink (count_in shape) k e) (behind_at k realm.slots)) (behind_at k a.realm.slots)
+  pub short : (k : ℕ) → k ≤ count_in shape → IsShortOf (then_told (hears_in shape k e) (behind_at k realm.slots)) (behind_at k a.realm.slots)
   pub its : IsItsCall (called (past ++ Heard ∷ [])) e
   pub age : realm.slots.age ≡ a.realm.slots.age
 
@@ -350,11 +350,11 @@ heard-led shape past a realm led slots =
 
 heard-short : (shape : Shape) (past : List Entry) (a : Node) (realm : SeenRealm) (o : Option Event) → Led shape past a → first_event a.realm.slots.promises.events ≡ o
     → realm.slots ≡ after_event a.realm.slots → (k : ℕ) → k ≤ count_in shape
-    → IsShortOf (then_told (next_heard FromBytes ToSink (count_in shape) k o) (behind_at k realm.slots)) (behind_at k a.realm.slots)
+    → IsShortOf (then_told (next_heard shape.origin shape.target (count_in shape) k o) (behind_at k realm.slots)) (behind_at k a.realm.slots)
 heard-short shape past a realm o led first slots k l =
-    subst (λ q. IsShortOf (then_told (next_heard FromBytes ToSink (count_in shape) k o) (behind_at k q)) (behind_at k a.realm.slots)) (sym slots)
-    (subst (λ q. IsShortOf (then_told (next_heard FromBytes ToSink (count_in shape) k q) (behind_at k (after_event a.realm.slots))) (behind_at k a.realm.slots)) first
-    ((each_event_keeps_chain FromBytes ToSink (count_in shape) a.realm.slots led.ran.wired).short k l))
+    subst (λ q. IsShortOf (then_told (next_heard shape.origin shape.target (count_in shape) k o) (behind_at k q)) (behind_at k a.realm.slots)) (sym slots)
+    (subst (λ q. IsShortOf (then_told (next_heard shape.origin shape.target (count_in shape) k q) (behind_at k (after_event a.realm.slots))) (behind_at k a.realm.slots)) first
+    ((each_event_keeps_chain shape.origin shape.target (count_in shape) a.realm.slots led.ran.wired).short k l))
 
 same_some : {A : Type 0} (x y : A) → Some x ≡ Some y → x ≡ y
 same_some x y e = grind arith

@@ -6,7 +6,7 @@ use Rattle.std.proofs.lemmas.List.{length-map}
 use Rattle.std.proofs.lemmas.List.Elements.{All-nil, All-head, All-tail}
 use Rattle.ws_value.specs.declared.ids.HostId.{HostId}
 use Rattle.ws_value.specs.declared.value.Value.{Value}
-use Rattle.ws_runner.specs.Shape.{Shape, count_in}
+use Rattle.ws_runner.specs.Shape.{Shape, count_in, hears_in}
 use Rattle.ws_flow.specs.Parts.{AtWork, Goes}
 use Rattle.ws_flow.specs.Steps.{parts_at, behind_of}
 use Rattle.ws_flow.specs.Stages.{machines}
@@ -22,7 +22,7 @@ use Rattle.ws_stages.specs.State.{State}
 use Rattle.ws_steps.specs.declared.calls.Event.TheVariants.{Host}
 use Rattle.ws_steps.specs.declared.calls.HostCall.{HostCall}
 use Rattle.ws_steps.specs.Run.{Entry, Heard}
-use Rattle.ws_chain_laws.specs.Chain.{FromBytes, ToSink, behind_at, heard_at}
+use Rattle.ws_chain_laws.specs.Chain.{behind_at}
 use Rattle.ws_chain_laws.specs.Nodes.{only_at}
 use Rattle.ws_realm.specs.Seen.{SeenRealm}
 use Rattle.ws_runner.specs.declared.node.Abort.{Abort}
@@ -143,105 +143,107 @@ module _ (shape : Shape) (past : List Entry) (a : Node) (realm : SeenRealm) (sin
       let g : length (stages_in a) ≡ count_in shape = ap length since.led.is_of.stages in
       omega arith
 
-  pub lying-is : lying a ≡ lies_in a (count_in shape)
-  lying-is = behind_is 0 (works_in a) (lies_in a) ∙ ap (lies_in a) count-works
+  -- the link that goes to the sink is the last
+  module _ (sink_link : ℕ) (is_last : sink_link ≡ count_in shape) where
+    lying-is : lying a ≡ lies_in a sink_link
+    lying-is = behind_is 0 (works_in a) (lies_in a) ∙ ap (lies_in a) (count-works ∙ sym is_last)
 
-  -- the chunk that lies first before the sink is below 2^25 bytes
-  pub piece-short : (piece : List ℕ) (y : Told (List ℕ)) → a.output ≡ output.Open → IsShortOf (then_told (told (piece ∷ []) MayCome) y) (lies_in a (count_in shape)) → length piece < 2 ^ 25
-  piece-short piece y is short =
-      let fit = since.led.is_of.fit in
-      let fed = since.fed in
-      let all = (lying_short shape.stages fed.came (parts a) (then_told fed.went (lying a)) fit.range fit.hex fit.few fed.short fed.flows).1 in
-      let first = before_front (then_told (told (piece ∷ []) MayCome) y) (lies_in a (count_in shape)) (before_of_short _ _ short) in
-      let P : List ℕ → Type 0 = λ c. length c < 33554432 in
-      let items : (then_told fed.went (lying a)).items ≡ fed.went.items ++ (piece ∷ (y.items ++ first.0)) =
-      then_items fed.went (lying a) (fed.goes_on is) ∙ (ap (λ (z : Told (List ℕ)). fed.went.items ++ z.items) lying-is ∙ ap (λ (z : List (List ℕ)). fed.went.items ++ z) first.1) in
-      All-head P piece (y.items ++ first.0) (all-last P fed.went.items (piece ∷ (y.items ++ first.0)) (subst (All P) items all))
+    -- the chunk that lies first before the sink is below 2^25 bytes
+    pub piece-short : (piece : List ℕ) (y : Told (List ℕ)) → a.output ≡ output.Open → IsShortOf (then_told (told (piece ∷ []) MayCome) y) (lies_in a sink_link) → length piece < 2 ^ 25
+    piece-short piece y is short =
+        let fit = since.led.is_of.fit in
+        let fed = since.fed in
+        let all = (lying_short shape.stages fed.came (parts a) (then_told fed.went (lying a)) fit.range fit.hex fit.few fed.short fed.flows).1 in
+        let first = before_front (then_told (told (piece ∷ []) MayCome) y) (lies_in a sink_link) (before_of_short _ _ short) in
+        let P : List ℕ → Type 0 = λ c. length c < 33554432 in
+        let items : (then_told fed.went (lying a)).items ≡ fed.went.items ++ (piece ∷ (y.items ++ first.0)) =
+        then_items fed.went (lying a) (fed.goes_on is) ∙ (ap (λ (z : Told (List ℕ)). fed.went.items ++ z.items) lying-is ∙ ap (λ (z : List (List ℕ)). fed.went.items ++ z) first.1) in
+        All-head P piece (y.items ++ first.0) (all-last P fed.went.items (piece ∷ (y.items ++ first.0)) (subst (All P) items all))
 
-  module _ (id : HostId) (call : HostCall) (t : Told Value) (event : AfterEvent shape past a realm (Host id call))
-      (heard : (k : ℕ) → k ≤ count_in shape → heard_at FromBytes ToSink (count_in shape) k (Host id call) ≡ only_at (count_in shape) t k) where
-    pub heard-out : (x : Told (List ℕ)) → IsShortOf (then_told (in_bytes t) (lies_to x was (count_in shape))) (lies_to x a (count_in shape))
-    heard-out x =
-        let n = count_in shape in
-        subst (λ (v : Told Value). IsShortOf (then_told (in_bytes v) (lies_to x was n)) (lies_to x a n))
-        (heard n (omega arith) ∙ at-there n t) (heard-lies shape past a realm (Host id call) event goes x n (omega arith))
+    module _ (id : HostId) (call : HostCall) (t : Told Value) (event : AfterEvent shape past a realm (Host id call))
+        (heard : (k : ℕ) → k ≤ count_in shape → hears_in shape k (Host id call) ≡ only_at sink_link t k) where
+      pub heard-out : (x : Told (List ℕ)) → IsShortOf (then_told (in_bytes t) (lies_to x was sink_link)) (lies_to x a sink_link)
+      heard-out x =
+          let n = sink_link in
+          subst (λ (v : Told Value). IsShortOf (then_told (in_bytes v) (lies_to x was n)) (lies_to x a n))
+          (heard n (omega arith) ∙ at-there n t) (heard-lies shape past a realm (Host id call) event goes x n (omega arith))
 
-    unheard-in : (x : Told (List ℕ)) (k : ℕ) → k < count_in shape → IsShortOf (lies_to x was k) (lies_to x a k)
-    unheard-in x k less =
-        unheard-lies shape past a realm (Host id call) event goes x k (omega arith) (ap in_bytes (heard k (omega arith) ∙ at-elsewhere (count_in shape) k t (λ e. omega arith)))
+      unheard-in : (x : Told (List ℕ)) (k : ℕ) → k < sink_link → IsShortOf (lies_to x was k) (lies_to x a k)
+      unheard-in x k less =
+          unheard-lies shape past a realm (Host id call) event goes x k (omega arith) (ap in_bytes (heard k (omega arith) ∙ at-elsewhere sink_link k t (λ e. omega arith)))
 
-    -- where there are stages, the first link isn't the last
-    pub one-stages : (b : Node) (u : State) (us : List State) → a.stages.items ≡ u ∷ us → b.stages.items ≡ u ∷ us → b.ahead ≡ a.ahead
-        → ((n : ℕ) → OneAtMost n (behind_at 0 realm.slots).items → OneAtMost n (behind_at 0 b.realm.slots).items) → HasOne b
-    one-stages b u us whole is ahead less =
-        let some : 0 ≢ count_in shape = λ e. let f = count-works in let g = length-map a.stages.items (λ (w : State). w.work) in let h : length a.stages.items ≡ suc (length us) = ap length whole in omega arith in
-        one-behind u us us a b since.one whole is ahead
-        (λ n o. less n (one-quiet n (heard_at FromBytes ToSink (count_in shape) 0 (Host id call)) (behind_at 0 realm.slots) (behind_at 0 a.realm.slots)
-        (heard 0 (omega arith) ∙ at-elsewhere (count_in shape) 0 t some) (event.short 0 (omega arith)) o))
+      -- where there are stages, the first link isn't the last
+      pub one-stages : (b : Node) (u : State) (us : List State) → a.stages.items ≡ u ∷ us → b.stages.items ≡ u ∷ us → b.ahead ≡ a.ahead
+          → ((n : ℕ) → OneAtMost n (behind_at 0 realm.slots).items → OneAtMost n (behind_at 0 b.realm.slots).items) → HasOne b
+      one-stages b u us whole is ahead less =
+          let some : 0 ≢ sink_link = λ e. let f = count-works in let g = length-map a.stages.items (λ (w : State). w.work) in let h : length a.stages.items ≡ suc (length us) = ap length whole in omega arith in
+          one-behind u us us a b since.one whole is ahead
+          (λ n o. less n (one-quiet n (hears_in shape 0 (Host id call)) (behind_at 0 realm.slots) (behind_at 0 a.realm.slots)
+          (heard 0 (omega arith) ∙ at-elsewhere sink_link 0 t some) (event.short 0 (omega arith)) o))
 
-    -- a node whose host has done its part, and its realm after that
-    module _ (b : Node) (k : ℕ) (x : Option Abort) (o : Output) (after : AfterQuiet shape (past ++ Heard ∷ []) (record was { ahead = k; abort = x; output = o }) b)
-        (went : Told (List ℕ)) (there : (z : Told (List ℕ)) → IsShortOf (then_told went (lies_to z was (count_in shape))) (lies_to z a (count_in shape))) where
-      b-is : b ≡ record a { realm = after.only.realm; stopped = after.only.stopped; ahead = k; abort = x; output = o }
-      b-is = after.only.is
+      -- a node whose host has done its part, and its realm after that
+      module _ (b : Node) (k : ℕ) (x : Option Abort) (o : Output) (after : AfterQuiet shape (past ++ Heard ∷ []) (record was { ahead = k; abort = x; output = o }) b)
+          (went : Told (List ℕ)) (there : (z : Told (List ℕ)) → IsShortOf (then_told went (lies_to z was sink_link)) (lies_to z a sink_link)) where
+        b-is : b ≡ record a { realm = after.only.realm; stopped = after.only.stopped; ahead = k; abort = x; output = o }
+        b-is = after.only.is
 
-      lies-before : (j : ℕ) → j < count_in shape → IsShortOf (lies_in b j) (lies_in a j)
-      lies-before j less =
-          subst (λ (z : Told (List ℕ)). IsShortOf (lies_to z b j) (lies_in a j)) (sym (ap (λ (n : Node). coming n j) b-is))
-          (short_trans _ _ _ (after.lies (coming a j) j (omega arith)) (unheard-in (coming a j) j less))
+        lies-before : (j : ℕ) → j < sink_link → IsShortOf (lies_in b j) (lies_in a j)
+        lies-before j less =
+            subst (λ (z : Told (List ℕ)). IsShortOf (lies_to z b j) (lies_in a j)) (sym (ap (λ (n : Node). coming n j) b-is))
+            (short_trans _ _ _ (after.lies (coming a j) j (omega arith)) (unheard-in (coming a j) j less))
 
-      lies-last : IsShortOf (then_told went (lies_in b (count_in shape))) (lies_in a (count_in shape))
-      lies-last =
-          let n = count_in shape in
-          subst (λ (z : Told (List ℕ)). IsShortOf (then_told went (lies_to z b n)) (lies_in a n)) (sym (ap (λ (m : Node). coming m n) b-is))
-          (short_trans _ _ _ (short_left went (lies_to (coming a n) b n) (lies_to (coming a n) was n) (after.lies (coming a n) n (omega arith))) (there (coming a n)))
+        lies-last : IsShortOf (then_told went (lies_in b sink_link)) (lies_in a sink_link)
+        lies-last =
+            let n = sink_link in
+            subst (λ (z : Told (List ℕ)). IsShortOf (then_told went (lies_to z b n)) (lies_in a n)) (sym (ap (λ (m : Node). coming m n) b-is))
+            (short_trans _ _ _ (short_left went (lies_to (coming a n) b n) (lies_to (coming a n) was n) (after.lies (coming a n) n (omega arith))) (there (coming a n)))
 
-      goes-out : Goes (machines (stages_in a)) nothing_yet (parts a) (lying a) (parts b) (then_told went (lying b))
-      goes-out =
-          let same : works_in b ≡ works_in a = ap works_in b-is in
-          let last : IsShortOf (then_told went (lies_in b (0 + length (works_in a)))) (lies_in a (0 + length (works_in a))) =
-          subst (λ (n : ℕ). IsShortOf (then_told went (lies_in b n)) (lies_in a n)) (sym count-works) lies-last in
-          subst (λ (ws : List AtWork). Goes (machines (stages_in a)) nothing_yet (parts a) (lying a) (parts_at 0 ws (lies_in b)) (then_told went (behind_of 0 ws (lies_in b)))) (sym same)
-          (goes_out (machines (stages_in a)) 0 (works_in a) (lies_in a) (lies_in b) went (same-length a.stages.items)
-          (λ j p less. lies-before j (let e = count-works in omega arith)) last)
+        goes-out : Goes (machines (stages_in a)) nothing_yet (parts a) (lying a) (parts b) (then_told went (lying b))
+        goes-out =
+            let same : works_in b ≡ works_in a = ap works_in b-is in
+            let last : IsShortOf (then_told went (lies_in b (0 + length (works_in a)))) (lies_in a (0 + length (works_in a))) =
+            subst (λ (n : ℕ). IsShortOf (then_told went (lies_in b n)) (lies_in a n)) (is_last ∙ sym count-works) lies-last in
+            subst (λ (ws : List AtWork). Goes (machines (stages_in a)) nothing_yet (parts a) (lying a) (parts_at 0 ws (lies_in b)) (then_told went (behind_of 0 ws (lies_in b)))) (sym same)
+            (goes_out (machines (stages_in a)) 0 (works_in a) (lies_in a) (lies_in b) went (same-length a.stages.items)
+            (λ j p less. lies-before j (let e = count-works in omega arith)) last)
 
-      pub sunk : (rf : ℕ) (feed : Option Feed) (old new : Shown) (p q : List ℕ → Type 0) (gain : List ℕ) (out : Mark) → Gains p q gain → IsShortOf (told gain out) (bytes_of went)
-          → (a.stages.items ≡ [] → a.ahead ≤ length gain + k) → OutputGoes a.output o gain out (shows rf feed old) (shows rf feed new) → AbortGoes a.abort x went.items gain o → HasOne b
-          → Handled shape a b (shows rf feed old) (shows rf feed new) p q
-      sunk rf feed old new p q gain out gained written ahead out_goes abort one =
-          let taken : b.taken ≡ a.taken = ap (λ (n : Node). n.taken) b-is in
-          let k_is : b.ahead ≡ k = ap (λ (n : Node). n.ahead) b-is in
-          let x_is : b.abort ≡ x = ap (λ (n : Node). n.abort) b-is in
-          let o_is : b.output ≡ o = ap (λ (n : Node). n.output) b-is in
-          let i_is : b.input ≡ a.input = ap (λ (n : Node). n.input) b-is in
-          record {
-            past = (past ++ Heard ∷ []) ++ after.more;
-            led = after.led;
-            pushes = λ e.
-                let f = after.older e in
-                let g = event.age in
-                subst (ArePushed b.realm.slots.age) (sym (ap (λ (n : Node). n.stages.items) b-is)) (all-more a.realm.slots.age b.realm.slots.age a.stages.items (omega arith) (since.pushes goes));
-            one = one;
-            went = record {
-              read = nothing_yet;
-              went = went;
-              gain = gain;
-              out = out;
-              fed = Fed-nothing feed;
-              gained = gained;
-              written = written;
-              short = All-nil (λ c. length c ≤ 4096);
-              goes = goes-out;
-              counted = omega arith;
-              ahead = λ none. let f = ahead none in omega arith;
-              input = subst (λ (i : Input). InputGoes a.input i nothing_yet (shows rf feed old) (shows rf feed new)) (sym i_is) (input-calm a.input rf feed old new);
-              output = subst (λ (z : Output). OutputGoes a.output z gain out (shows rf feed old) (shows rf feed new)) (sym o_is) out_goes;
-              abort = subst (λ (z : Option Abort). AbortGoes a.abort z went.items gain b.output) (sym x_is) (subst (λ (z : Output). AbortGoes a.abort x went.items gain z) (sym o_is) abort);
-              stays = going-acts a b (shows rf feed old) (shows rf feed new) nothing_yet gain goes;
-              stages = ap stages_in b-is;
-              sink = ap (λ (n : Node). n.sink) b-is;
-              most = ap (λ (n : Node). n.most) b-is;
-              pipe = ap (λ (n : Node). n.pipe) b-is;
-              pipes = ap (λ (n : Node). n.pipes_before) b-is;
-            };
-          }
+        pub sunk : (rf : ℕ) (feed : Option Feed) (old new : Shown) (p q : List ℕ → Type 0) (gain : List ℕ) (out : Mark) → Gains p q gain → IsShortOf (told gain out) (bytes_of went)
+            → (a.stages.items ≡ [] → a.ahead ≤ length gain + k) → OutputGoes a.output o gain out (shows rf feed old) (shows rf feed new) → AbortGoes a.abort x went.items gain o → HasOne b
+            → Handled shape a b (shows rf feed old) (shows rf feed new) p q
+        sunk rf feed old new p q gain out gained written ahead out_goes abort one =
+            let taken : b.taken ≡ a.taken = ap (λ (n : Node). n.taken) b-is in
+            let k_is : b.ahead ≡ k = ap (λ (n : Node). n.ahead) b-is in
+            let x_is : b.abort ≡ x = ap (λ (n : Node). n.abort) b-is in
+            let o_is : b.output ≡ o = ap (λ (n : Node). n.output) b-is in
+            let i_is : b.input ≡ a.input = ap (λ (n : Node). n.input) b-is in
+            record {
+              past = (past ++ Heard ∷ []) ++ after.more;
+              led = after.led;
+              pushes = λ e.
+                  let f = after.older e in
+                  let g = event.age in
+                  subst (ArePushed b.realm.slots.age) (sym (ap (λ (n : Node). n.stages.items) b-is)) (all-more a.realm.slots.age b.realm.slots.age a.stages.items (omega arith) (since.pushes goes));
+              one = one;
+              went = record {
+                read = nothing_yet;
+                went = went;
+                gain = gain;
+                out = out;
+                fed = Fed-nothing feed;
+                gained = gained;
+                written = written;
+                short = All-nil (λ c. length c ≤ 4096);
+                goes = goes-out;
+                counted = omega arith;
+                ahead = λ none. let f = ahead none in omega arith;
+                input = subst (λ (i : Input). InputGoes a.input i nothing_yet (shows rf feed old) (shows rf feed new)) (sym i_is) (input-calm a.input rf feed old new);
+                output = subst (λ (z : Output). OutputGoes a.output z gain out (shows rf feed old) (shows rf feed new)) (sym o_is) out_goes;
+                abort = subst (λ (z : Option Abort). AbortGoes a.abort z went.items gain b.output) (sym x_is) (subst (λ (z : Output). AbortGoes a.abort x went.items gain z) (sym o_is) abort);
+                stays = going-acts a b (shows rf feed old) (shows rf feed new) nothing_yet gain goes;
+                stages = ap stages_in b-is;
+                sink = ap (λ (n : Node). n.sink) b-is;
+                most = ap (λ (n : Node). n.most) b-is;
+                pipe = ap (λ (n : Node). n.pipe) b-is;
+                pipes = ap (λ (n : Node). n.pipes_before) b-is;
+              };
+            }

@@ -1,5 +1,5 @@
 -- What a stage is asked is heard at its link; and nowhere where there is no such stage.
-use Rattle.std.proofs.Common.{◌≡◌, ◌≢◌, ◌≤◌, ◌<◌, ◌*◌, ℕ, zero, suc, nat_eq, Bool, true, false, List, [], ◌∷◌, ◌++◌, length, refl, sym, ap, ◌∙◌, arith}
+use Rattle.std.proofs.Common.{◌≡◌, ◌≢◌, ◌≤◌, ◌<◌, ◌*◌, ℕ, zero, suc, nat_eq, Bool, true, false, if◌then◌else◌, List, [], ◌∷◌, ◌++◌, length, refl, sym, ap, ◌∙◌, arith}
 use Rattle.ws_value.specs.declared.ids.HostId.{HostId}
 use Rattle.ws_value.specs.declared.ids.StreamId.{StreamId}
 use Rattle.ws_value.specs.declared.value.Value.{Value}
@@ -8,10 +8,11 @@ use Rattle.ws_laws.proofs.Tables.{eq_numbers, unequal_numbers, is_same-refl}
 use Rattle.ws_stages.specs.State.{State}
 use Rattle.ws_steps.specs.declared.calls.Event.TheVariants.{Host}
 use Rattle.ws_steps.specs.declared.calls.HostCall.TheVariants.{Transform, Flush}
-use Rattle.ws_chain_laws.specs.Chain.{FromBytes, ToSink, source_of, heard_at}
+use Rattle.ws_chain_laws.specs.Chain.{Target, ToSink, ToPort, source_of, dest_of, transform_of, last_ear}
 use Rattle.ws_chain_laws.specs.Nodes.{only_at}
-use Rattle.ws_link_laws.specs.Link.{silence}
+use Rattle.ws_link_laws.specs.Link.{Ear, OfTransform, heard_of, silence}
 use Rattle.ws_runner.specs.Moves.{NoneThere}
+use Rattle.ws_runner.specs.Shape.{Shape, count_in, hears_in}
 
 pub unlike : (a b : ℕ) → (a ≡ b → ⊥) → nat_eq a b ≡ false
 unlike a b n = by (nat_eq a b) refl where
@@ -36,24 +37,32 @@ IsNoHalf n i = (k : ℕ) → suc k ≤ n → i ≡ source_of (suc k) → ⊥
 the_half : (k : ℕ) (i : StreamId) → nat_eq (2 * suc k) i.0 ≡ true → i ≡ source_of (suc k)
 the_half k i e = ap (λ (x : ℕ). let s : StreamId = record { 0 = x } in s) (sym (eq_numbers (2 * suc k) i.0 e))
 
-module _ (n k : ℕ) (id : HostId) (i : StreamId) (less : k ≤ n) (none : IsNoHalf n i) where
+module _ (shape : Shape) (k : ℕ) (id : HostId) (i : StreamId) (less : k ≤ count_in shape) (none : IsNoHalf (count_in shape) i) where
+  abbrev n : ℕ
+  n = count_in shape
+
   not_half : nat_eq k n ≡ false → nat_eq (2 * suc k) i.0 ≡ false
   not_half e = by (nat_eq (2 * suc k) i.0) refl where
     by : (b : Bool) → nat_eq (2 * suc k) i.0 ≡ b → nat_eq (2 * suc k) i.0 ≡ false
     by true f = absurd (none k (let g = unequal_numbers k n e in let h : k ≢ n = g in omega arith) (the_half k i f))
     by false f = f
 
-  pub no-transform : (v : Value) → heard_at FromBytes ToSink n k (Host id (Transform i v)) ≡ silence
-  no-transform v = by (nat_eq k n) refl where
-    by : (b : Bool) → nat_eq k n ≡ b → heard_at FromBytes ToSink n k (Host id (Transform i v)) ≡ silence
-    by true e = rw e refl
-    by false e = let f = not_half e in rw (e, f) refl
+  abbrev ear : Target → Bool → Ear
+  ear t b = if b then last_ear shape.origin t (dest_of k) else OfTransform (transform_of k) (source_of (suc k))
 
-  pub no-flush : heard_at FromBytes ToSink n k (Host id (Flush i)) ≡ silence
-  no-flush = by (nat_eq k n) refl where
-    by : (b : Bool) → nat_eq k n ≡ b → heard_at FromBytes ToSink n k (Host id (Flush i)) ≡ silence
-    by true e = rw e refl
-    by false e = let f = not_half e in rw (e, f) refl
+  pub no-transform : (v : Value) → hears_in shape k (Host id (Transform i v)) ≡ silence
+  no-transform v = by shape.target (nat_eq k n) refl where
+    by : (t : Target) (b : Bool) → nat_eq k n ≡ b → heard_of (ear t b) (Host id (Transform i v)) ≡ silence
+    by ToSink true e = refl
+    by ToPort true e = refl
+    by t false e = let f = not_half e in rw f refl
+
+  pub no-flush : hears_in shape k (Host id (Flush i)) ≡ silence
+  no-flush = by shape.target (nat_eq k n) refl where
+    by : (t : Target) (b : Bool) → nat_eq k n ≡ b → heard_of (ear t b) (Host id (Flush i)) ≡ silence
+    by ToSink true e = refl
+    by ToPort true e = refl
+    by t false e = let f = not_half e in rw f refl
 
 -- the stage of this place
 

@@ -1,7 +1,7 @@
 -- A node goes on as its realm performs jobs.
 use Rattle.std.proofs.Common.{◌≡◌, ◌≤◌, ◌<◌, ℕ, List, ◌++◌, Option, Some, None, refl, sym, ap, ◌∙◌, subst, arith}
 use Rattle.std.proofs.lemmas.List.Elements.{All-weaker}
-use Rattle.ws_runner.specs.Shape.{Shape, count_in}
+use Rattle.ws_runner.specs.Shape.{Shape}
 use Rattle.ws_io.specs.Moment.{Moment}
 use Rattle.ws_io.proofs.Flow.{Gains-nothing}
 use Rattle.ws_realm.specs.declared.realm.Why.{Why}

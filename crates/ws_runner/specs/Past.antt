@@ -21,7 +21,7 @@ use Rattle.ws_steps.specs.declared.calls.HostCall.TheVariants.{Pull, Close, Flus
 use Rattle.ws_steps.specs.Run.{Entry, Called, run}
 use Rattle.ws_steps.specs.Slots.{empty}
 use Rattle.ws_host_laws.specs.HostCalls.{called, settles_well}
-use Rattle.ws_chain_laws.specs.Chain.{dest_of, behind_at}
+use Rattle.ws_chain_laws.specs.Chain.{FromBytes, ToSink, dest_of, behind_at}
 use Rattle.ws_chain_laws.specs.Opening.{signal_of}
 use Rattle.ws_realm.specs.Seen.{oldest}
 use Rattle.ws_realm.specs.declared.realm.Why.TheVariants.{Spent}
@@ -125,9 +125,11 @@ pub record IsOf (plan : Plan) (n : Node) : Type 0 where
 abbrev pub AbortsReached : Node → Type 0
 AbortsReached n = n.output ≡ output.Aborted → is_reached n.abort ≡ true
 
--- the stages, the sink, the limit and the signal of a node are those of its shape
+-- the stages, the ends, the limit and the signal of a node are those of its shape
 pub record IsShaped (shape : Shape) (n : Node) : Type 0 where
   pub fit : AreFit shape.stages
+  pub from : shape.origin ≡ FromBytes
+  pub into : shape.target ≡ ToSink
   pub stages : stages_in n ≡ shape.stages
   pub sink : n.sink ≡ dest_of (count_in shape)
   pub most : n.most ≡ shape.most

@@ -7,10 +7,17 @@ use Rattle.ws_flow.specs.declared.plan.Stage.{Stage}
 use Rattle.ws_flow.specs.Plans.{is_hex, stages_of}
 use Rattle.ws_flow.specs.Stages.{is_in_range}
 use Rattle.ws_wire_laws.specs.Wire.{Joint}
-use Rattle.ws_chain_laws.specs.Chain.{FromBytes, ToSink, links_of}
+use Rattle.ws_value.specs.declared.value.Value.{Value}
+use Rattle.ws_steps.specs.declared.calls.Call.{Call}
+use Rattle.ws_steps.specs.declared.calls.Event.{Event}
+use Rattle.ws_flow.specs.Told.{Told}
+use Rattle.ws_chain_laws.specs.Chain.{Origin, FromBytes, Target, ToSink, links_of, call_enters, heard_at}
 use Rattle.ws_runner.specs.Opening.{is_aborted}
 
 pub record Shape : Type 0 where
+  -- the kinds of its first source and of its last destination
+  pub origin : Origin
+  pub target : Target
   pub stages : List Stage
   -- whether the last pipe has a signal
   pub aborted : Bool
@@ -22,11 +29,19 @@ abbrev pub count_in : Shape → ℕ
 count_in shape = length shape.stages
 
 abbrev pub links_in : Shape → List Joint
-links_in shape = links_of FromBytes ToSink (count_in shape)
+links_in shape = links_of shape.origin shape.target (count_in shape)
+
+-- what a call brings to its link k, and what an event tells of it
+
+abbrev pub enters_in : Shape → ℕ → Call → Told Value
+enters_in shape k c = call_enters shape.origin k c
+
+abbrev pub hears_in : Shape → ℕ → Event → Told Value
+hears_in shape k e = heard_at shape.origin shape.target (count_in shape) k e
 
 -- the shape of the one node of a plan
 abbrev pub shape_of : Plan → Shape
-shape_of plan = record { stages = stages_of plan; aborted = is_aborted plan; most = nat_abs plan.max_input }
+shape_of plan = record { origin = FromBytes; target = ToSink; stages = stages_of plan; aborted = is_aborted plan; most = nat_abs plan.max_input }
 
 -- stages as a plan may have them that isn't refused: so what lies between them stays short
 pub record AreFit (stages : List Stage) : Type 0 where
