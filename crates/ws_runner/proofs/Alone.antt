@@ -1,10 +1,10 @@
 -- A run of one node: what its output got, and what its stages found, of all that was read.
 use Rattle.std.proofs.Common.{◌≡◌, ℕ, true, false, List, [], ◌∷◌, ◌++◌, refl, sym, subst, append-nil}
 use Rattle.std.specs.List.{concat}
-use Rattle.ws_flow.specs.declared.plan.Ending.TheVariants.{Fine, Bad}
+use Rattle.ws_flow.specs.declared.plan.Ending.TheVariants.{Bad}
 use Rattle.ws_flow.specs.declared.plan.Stage.{Stage}
 use Rattle.ws_flow.specs.Chains.{Host, Member, Chained}
-use Rattle.ws_flow.specs.Machines.{ending}
+use Rattle.ws_flow.specs.Machines.{ending, EndsWell}
 use Rattle.ws_flow.specs.Parts.{Part, Flows, found}
 use Rattle.ws_flow.specs.Plans.{as_one, reach, sees_known_chunks}
 use Rattle.ws_flow.specs.Stages.{machines}
@@ -32,9 +32,7 @@ module _ (ss : List Stage) (read went behind : Told (List ℕ)) (ps : List Part)
       (subst (λ q. found q j ≡ Bad code place) (sym (append-nil ps)) f))
 
   pub closed-whole : got.mark ≡ Closed →
-      (bytes_of (reach ss (concat read.items) read.mark) ≡ got) × (read.mark ≡ Closed)
-      × ((j : ℕ) → ending (machines ss) j (as_one (concat read.items) read.mark) ≡ Fine)
+      (bytes_of (reach ss (concat read.items) read.mark) ≡ got) × EndsWell (machines ss) (as_one (concat read.items) read.mark)
   closed-whole c =
-      subst (λ q. (bytes_of (reach q (concat read.items) read.mark) ≡ got) × (read.mark ≡ Closed)
-      × ((j : ℕ) → ending (machines q) j (as_one (concat read.items) read.mark) ≡ Fine)) (append-nil ss)
+      subst (λ q. (bytes_of (reach q (concat read.items) read.mark) ≡ got) × EndsWell (machines q) (as_one (concat read.items) read.mark)) (append-nil ss)
       (chain_done (bytes_of read) (one ∷ []) got all_known chained c)

@@ -4,7 +4,7 @@ use Rattle.std.specs.List.{concat}
 use Rattle.ws_flow.specs.declared.plan.Ending.TheVariants.{Fine}
 use Rattle.ws_flow.specs.declared.plan.Plan.{Plan}
 use Rattle.ws_flow.specs.Plans.{reach, stages_of}
-use Rattle.ws_flow.specs.Told.{bytes_of, Mark, Open as MayCome, Closed, Lost, Told, told, IsFront, IsBefore}
+use Rattle.ws_flow.specs.Told.{bytes_of, Mark, Open as MayCome, Closed, Broken, Lost, Told, told, IsFront, IsBefore}
 use Rattle.ws_flow.proofs.Cutting.{some_joined}
 use Rattle.ws_flow.proofs.Told.{before_front}
 use Rattle.ws_io.specs.Faults.{Rose}
@@ -42,6 +42,16 @@ input-ended input.Open input.TooLong read m₀ m₁ e f (g, h, k) = absurd (cc)
 input-ended input.Ended o read m₀ m₁ e f h = absurd (cc)
 input-ended input.Failed o read m₀ m₁ e f h = absurd (cc)
 input-ended input.TooLong o read m₀ m₁ e f h = absurd (cc)
+
+-- it never breaks off
+input-unbroken : (i o : Input) (read : Told (List ℕ)) (m₀ m₁ : Moment) → read.mark ≡ Broken → InputGoes i o read m₀ m₁ → ⊥
+input-unbroken input.Open input.Open read m₀ m₁ e h = let f = h.0 in absurd (cc)
+input-unbroken input.Open input.Ended read m₀ m₁ e h = let f = h.0 in absurd (cc)
+input-unbroken input.Open input.Failed read m₀ m₁ e h = let f = h.0 in absurd (cc)
+input-unbroken input.Open input.TooLong read m₀ m₁ e h = let f = h.0 in absurd (cc)
+input-unbroken input.Ended o read m₀ m₁ e h = let f : read.mark ≡ MayCome = ap (λ t. t.mark) h.1 in absurd (cc)
+input-unbroken input.Failed o read m₀ m₁ e h = let f : read.mark ≡ MayCome = ap (λ t. t.mark) h.1 in absurd (cc)
+input-unbroken input.TooLong o read m₀ m₁ e h = let f : read.mark ≡ MayCome = ap (λ t. t.mark) h.1 in absurd (cc)
 
 input-failed : (i o : Input) (read : Told (List ℕ)) (m₀ m₁ : Moment) → i ≡ input.Open → o ≡ input.Failed → InputGoes i o read m₀ m₁ → Rose m₀.read_faults m₁.read_faults
 input-failed input.Open input.Failed read m₀ m₁ e f (g, h, k) = h
@@ -143,7 +153,7 @@ module _ (plan : Plan) (a n : Node) (m₀ m₁ : Moment) (p q : List ℕ → Typ
   whole done =
       let o = output-finished a.output n.output w.gain w.out m₀ m₁ new.output done w.output in
       let c = flow.closed plan n m₀ m₁ w.read w.went w.gain w.out gone o.0 in
-      let i = input-ended a.input n.input w.read m₀ m₁ new.input c.1 w.input in
+      let i = input-ended a.input n.input w.read m₀ m₁ new.input c.1.closed w.input in
       let within = counts.within (λ e. let f = i.3 in cc) in
       let same = within_most in
       let limit = most in
@@ -152,8 +162,8 @@ module _ (plan : Plan) (a n : Node) (m₀ m₁ : Moment) (p q : List ℕ → Typ
         emptied = i.2;
         no_fault = record { read = i.0; write = o.1 };
         within = omega arith;
-        fine = subst (λ (m : Mark). (j : ℕ) → ending_of plan j taken m ≡ Fine) c.1 c.2;
-        whole = subst (λ (m : Mark). out_of plan taken m ≡ told w.gain m) c.1 (c.0 ∙ ap (λ m. told w.gain m) (o.0 ∙ sym c.1));
+        fine = subst (λ (m : Mark). (j : ℕ) → ending_of plan j taken m ≡ Fine) c.1.closed c.1.fine;
+        whole = subst (λ (m : Mark). out_of plan taken m ≡ told w.gain m) c.1.closed (c.0 ∙ ap (λ m. told w.gain m) (o.0 ∙ sym c.1.closed));
         finished = o.2;
       }
 
@@ -198,6 +208,7 @@ module _ (plan : Plan) (a n : Node) (m₀ m₁ : Moment) (p q : List ℕ → Typ
 
   reads : (m : Mark) → w.read.mark ≡ m → ReadAs m m₀ m₁
   reads MayCome e = tt
+  reads Broken e = input-unbroken a.input n.input w.read m₀ m₁ e w.input
   reads Lost e = tt
   reads Closed e =
       let i = input-ended a.input n.input w.read m₀ m₁ new.input e w.input in

@@ -6,7 +6,7 @@ use Rattle.ws_flow.specs.declared.plan.Ending.{Ending}
 use Rattle.ws_flow.specs.declared.plan.Plan.{Plan}
 use Rattle.ws_flow.specs.declared.plan.Stage.{Stage}
 use Rattle.ws_flow.specs.Parts.{Over, Part, Goes, Flows, fresh, found, said}
-use Rattle.ws_flow.specs.Plans.{reach, sees_known_chunks, stages_of}
+use Rattle.ws_flow.specs.Plans.{as_one, reach, sees_known_chunks, stages_of}
 use Rattle.ws_flow.specs.Stages.{machines}
 use Rattle.ws_flow.specs.Steps.{parts_at}
 use Rattle.ws_flow.specs.Told.{bytes_of, Mark, Open as MayCome, Closed, Told, told, then_told, IsBefore}
@@ -24,7 +24,7 @@ use Rattle.ws_runner.specs.Past.{EndedAs, IsNew}
 use Rattle.ws_runner.specs.Went.{OutputGoes, AbortGoes, StopsAt}
 use Rattle.ws_runner.proofs.Alone.{got-before, found-bad, closed-whole}
 use Rattle.ws_runner.proofs.AtEnd.{found_late, fine_before}
-use Rattle.ws_flow.specs.Machines.{some_chunk, all_through}
+use Rattle.ws_flow.specs.Machines.{some_chunk, all_through, EndsWell}
 use Rattle.ws_flow.proofs.Chain.{flows_before, flows_whole}
 use Rattle.ws_flow.proofs.Told.{before_then, before_trans, before_of_short}
 use Rattle.ws_runner.specs.Flow.{HasGone, IsWhole, KeepsFlow}
@@ -86,7 +86,7 @@ module _ (plan : Plan) (n : Node) (m₀ m₁ : Moment) (read went : Told (List �
   before = got-before (stages_of plan) read went (lying n) (parts n) got known flows written
 
   -- an output that was finished has all
-  pub closed : out ≡ Closed → (bytes_of (reach (stages_of plan) taken read.mark) ≡ got) × (read.mark ≡ Closed) × ((j : ℕ) → ending_of plan j taken read.mark ≡ Fine)
+  pub closed : out ≡ Closed → (bytes_of (reach (stages_of plan) taken read.mark) ≡ got) × EndsWell (machines (stages_of plan)) (as_one taken read.mark)
   closed e = closed-whole (stages_of plan) read went (lying n) (parts n) got known flows written e
 
   bad-by : (index code place j : ℕ) → index ≡ suc j → ending_of plan j taken read.mark ≡ Bad code place → IsBad plan index code place read.mark taken
@@ -112,11 +112,12 @@ module _ (plan : Plan) (n : Node) (m₀ m₁ : Moment) (read went : Told (List �
 
   is-whole : out ≡ Closed → (read.mark ≡ Closed) × IsWhole plan taken gain
   is-whole e =
-      let c = closed e in (
-        c.1,
+      let c = closed e in
+      let ended = c.1.closed in (
+        ended,
         record {
-          fine = subst (λ (m : Mark). (j : ℕ) → ending_of plan j taken m ≡ Fine) c.1 c.2;
-          all = subst (λ (m : Mark). out_of plan taken m ≡ told gain m) c.1 (c.0 ∙ ap (λ m. told gain m) (e ∙ sym c.1));
+          ends_well = subst (λ (m : Mark). EndsWell (machines (stages_of plan)) (as_one taken m)) ended c.1;
+          all = subst (λ (m : Mark). out_of plan taken m ≡ told gain m) ended (c.0 ∙ ap (λ m. told gain m) (e ∙ sym ended));
         },
       )
 

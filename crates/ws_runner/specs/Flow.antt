@@ -1,24 +1,23 @@
 -- How what went out of a node stands to what came into it, once it has gone on for any number of turns.
 use Rattle.std.specs.Prelude.{◌≡◌, ◌≢◌, ◌<◌, ℕ, ℤ, nat_abs, List, length, Some}
 use Rattle.std.specs.List.{concat}
-use Rattle.ws_flow.specs.declared.plan.Ending.TheVariants.{Fine}
 use Rattle.ws_flow.specs.declared.plan.Plan.{Plan}
-use Rattle.ws_flow.specs.Machines.{all_through}
+use Rattle.ws_flow.specs.Machines.{all_through, EndsWell}
 use Rattle.ws_flow.specs.Parts.{Goes, residual}
-use Rattle.ws_flow.specs.Plans.{stages_of}
+use Rattle.ws_flow.specs.Plans.{as_one, stages_of}
 use Rattle.ws_flow.specs.Stages.{machines}
 use Rattle.ws_flow.specs.Told.{bytes_of, Mark, Closed, Lost, Told, told, then_told, IsBefore, IsShortOf}
 use Rattle.ws_io.specs.Moment.{Moment}
 use Rattle.ws_runner.specs.declared.node.Node.{Node}
 use Rattle.ws_runner.specs.declared.node.Output.TheVariants as output
-use Rattle.ws_runner.specs.Ends.{IsBad, ending_of, out_of}
+use Rattle.ws_runner.specs.Ends.{IsBad, out_of}
 use Rattle.ws_runner.specs.Node.{lying, parts, stages_in}
 use Rattle.ws_runner.specs.Past.{EndedAs, IsNew}
 use Rattle.ws_runner.specs.Went.{AbortGoes, OutputGoes, StopsAt, Went}
 
 -- an output that was finished has all: the input was read to its end, and each stage ended fine
 pub record IsWhole (plan : Plan) (read gain : List ℕ) : Type 0 where
-  pub fine : (j : ℕ) → ending_of plan j read Closed ≡ Fine
+  pub ends_well : EndsWell (machines (stages_of plan)) (as_one read Closed)
   pub all : out_of plan read Closed ≡ told gain Closed
 
 -- a node that was new has read this, and this went out of it, of which the output gained so much: the parts of `Went` that say so
