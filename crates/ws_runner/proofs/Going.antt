@@ -14,6 +14,8 @@ use Rattle.ws_flow.proofs.Cutting.{joined_append, bytes_then}
 use Rattle.ws_flow.proofs.Ends.{goes_behind}
 use Rattle.ws_flow.proofs.Steps.{goes_rests}
 use Rattle.ws_flow.proofs.Told.{then_assoc, short_refl, short_trans, short_same, short_as, short_left, short_right}
+use Rattle.ws_segment_laws.specs.Segments.{Move, all_then}
+use Rattle.ws_segment_laws.proofs.Segments.{each_goes_on}
 use Rattle.ws_io.proofs.Flow.{Gains-nothing, Gains-then, Fed-nothing, Fed-then, KeepsTold-same, KeepsTold-then, Becomes-then}
 use Rattle.ws_io.specs.Feed.{Feed, IsEmpty, IsEnded, KeepsEnd}
 use Rattle.ws_io.specs.Gain.{Gains, KeepsTold, Becomes}
@@ -28,7 +30,7 @@ use Rattle.ws_runner.specs.declared.node.Output.{Output}
 use Rattle.ws_runner.specs.declared.node.Output.TheVariants as output
 use Rattle.ws_runner.specs.Node.{lies_in, lying, nothing_yet, parts, stages_in, works_in}
 use Rattle.ws_runner.specs.Past.{IsFed}
-use Rattle.ws_runner.specs.Went.{InputGoes, LeftAlone, OutputGoes, StopsAt, ComesNear, AbortGoes, DoesNothing, Went}
+use Rattle.ws_runner.specs.Went.{InputGoes, LeftAlone, OutputGoes, StopsAt, ComesNear, AbortGoes, DoesNothing, CoreGoes, FromGoes, ToGoes, Went, stretches}
 use Rattle.ws_runner.proofs.StillOpen.{was-open, still-open}
 use Rattle.ws_runner.proofs.Since.{OnlyRealm}
 
@@ -311,25 +313,52 @@ no-stages xs [] e f = refl
 no-stages [] (y ∷ ys) e f = absurd (cc)
 no-stages (x ∷ xs) (y ∷ ys) e f = absurd (cc)
 
--- what went on through the stages, and then what did
-goes-both : (a b c : Node) (x y v w : Told (List ℕ)) → stages_in b ≡ stages_in a → Goes (machines (stages_in a)) x (parts a) (lying a) (parts b) (then_told v (lying b))
-    → Goes (machines (stages_in b)) y (parts b) (lying b) (parts c) (then_told w (lying c))
-    → Goes (machines (stages_in a)) (then_told x y) (parts a) (lying a) (parts c) (then_told (then_told v w) (lying c))
-goes-both a b c x y v w same first second =
-    let ms : List Machine = machines (stages_in a) in
-    let next : Goes ms y (parts b) (lying b) (parts c) (then_told w (lying c)) =
-    subst (λ q. Goes (machines q) y (parts b) (lying b) (parts c) (then_told w (lying c))) same second in
-    subst (λ q. Goes ms (then_told x y) (parts a) (lying a) (parts c) q) (sym (then_assoc v w (lying c)))
-    (goes_then ms x y (parts a) (lying a) (parts b) (then_told v (lying b)) (parts c) (then_told v (then_told w (lying c))) first
-    (goes_behind ms y (parts b) (lying b) (parts c) (then_told w (lying c)) v next))
+-- the node by itself, what its input adds and what its output adds, one after another
+
+pub core-then : (a b c : Node) (ms ns : List Move) → CoreGoes a b ms → CoreGoes b c ns → CoreGoes a c (all_then ms ns)
+core-then a b c ms ns first second =
+    record {
+      moves = each_goes_on (stretches a) (stretches b) (stretches c) ms ns first.moves second.moves;
+      pipe = second.pipe ∙ first.pipe;
+      pipes = second.pipes ∙ first.pipes;
+    }
+
+pub from-then : (a b c : Node) (x y : Told (List ℕ)) (m₀ m₁ m₂ : Moment) → FromGoes a b m₀ m₁ x → FromGoes b c m₁ m₂ y → FromGoes a c m₀ m₂ (then_told x y)
+from-then a b c x y m₀ m₁ m₂ first second =
+    let reads = input-then a.input b.input c.input x y m₀ m₁ m₂ first.input second.input in
+    let counted = first.counted in
+    let counted₂ = second.counted in
+    let some : length (concat (then_told x y).items) ≡ length (concat x.items) + length (concat y.items) = ap length reads.joined ∙ length-append (concat x.items) (concat y.items) in
+    record {
+      fed = rw reads.joined (Fed-then m₀.feed m₁.feed m₂.feed (concat x.items) (concat y.items) first.fed second.fed);
+      short = short-pieces x y first.short second.short;
+      counted = omega arith;
+      input = reads.goes;
+      source = second.source ∙ first.source;
+      most = second.most ∙ first.most;
+    }
+
+pub into-then : (a b c : Node) (x y : Told (List ℕ)) (g h : List ℕ) (o n : Mark) (m₀ m₁ m₂ : Moment) (p q r : List ℕ → Type 0) → ToGoes a b m₀ m₁ p q x g o → ToGoes b c m₁ m₂ q r y h n
+    → ToGoes a c m₀ m₂ p r (then_told x y) (g ++ h) (mark_then o n)
+into-then a b c x y g h o n m₀ m₁ m₂ p q r first second =
+    let writes = output-then a.output b.output c.output g h o n m₀ m₁ m₂ first.output second.output in
+    record {
+      gained = Gains-then p q r g h first.gained second.gained;
+      written =
+          short_same _ _ _ writes.joined
+          (short_as _ _ _ (sym (bytes_then x y))
+          (short_trans _ _ _ (short_right (told g o) (bytes_of x) (told h n) first.written) (short_left (bytes_of x) (told h n) (bytes_of y) second.written)));
+      output = writes.goes;
+      abort =
+          abort-then a.abort b.abort c.abort x y g h b.output c.output (failed-stays b.output c.output h n m₁ m₂ second.output)
+          (wrote-all a.output b.output c.output g h o n x m₀ m₁ m₂ first.output second.output first.written) first.abort second.abort;
+      sink = second.sink ∙ first.sink;
+    }
 
 -- one after another
 pub went-then : (a b c : Node) (m₀ m₁ m₂ : Moment) (p q r : List ℕ → Type 0) → Went a b m₀ m₁ p q → Went b c m₁ m₂ q r → Went a c m₀ m₂ p r
 went-then a b c m₀ m₁ m₂ p q r first second =
-    let reads = input-then a.input b.input c.input first.read second.read m₀ m₁ m₂ first.input second.input in
-    let writes = output-then a.output b.output c.output first.gain second.gain first.out second.out m₀ m₁ m₂ first.output second.output in
-    let counted = first.counted in
-    let counted₂ = second.counted in
+    let reads = input-then a.input b.input c.input first.read second.read m₀ m₁ m₂ first.from.input second.from.input in
     let some : length (concat (then_told first.read second.read).items) ≡ length (concat first.read.items) + length (concat second.read.items) =
     ap length reads.joined ∙ length-append (concat first.read.items) (concat second.read.items) in
     record {
@@ -337,27 +366,13 @@ went-then a b c m₀ m₁ m₂ p q r first second =
       went = then_told first.went second.went;
       gain = first.gain ++ second.gain;
       out = mark_then first.out second.out;
-      fed = rw reads.joined (Fed-then m₀.feed m₁.feed m₂.feed (concat first.read.items) (concat second.read.items) first.fed second.fed);
-      gained = Gains-then p q r first.gain second.gain first.gained second.gained;
-      written =
-          short_same _ _ _ writes.joined
-          (short_as _ _ _ (sym (bytes_then first.went second.went))
-          (short_trans _ _ _ (short_right (told first.gain first.out) (bytes_of first.went) (told second.gain second.out) first.written)
-          (short_left (bytes_of first.went) (told second.gain second.out) (bytes_of second.went) second.written)));
-      short = short-pieces first.read second.read first.short second.short;
-      goes = goes-both a b c first.read second.read first.went second.went first.stages first.goes second.goes;
-      counted = omega arith;
+      core = core-then a b c (record { came = first.read; went = first.went } ∷ []) (record { came = second.read; went = second.went } ∷ []) first.core second.core;
+      from = from-then a b c first.read second.read m₀ m₁ m₂ first.from second.from;
+      into = into-then a b c first.went second.went first.gain second.gain first.out second.out m₀ m₁ m₂ p q r first.into second.into;
       ahead = λ none.
           let ahead = first.ahead none in
-          let ahead₂ = second.ahead (no-stages a.stages.items b.stages.items first.stages none) in
+          let ahead₂ = second.ahead (no-stages a.stages.items b.stages.items first.core.moves.0.stages none) in
           omega (arith, length-append first.gain second.gain);
-      input = reads.goes;
-      output = writes.goes;
-      abort =
-          abort-then a.abort b.abort c.abort first.went second.went first.gain second.gain b.output c.output
-          (failed-stays b.output c.output second.gain second.out m₁ m₂ second.output)
-          (wrote-all a.output b.output c.output first.gain second.gain first.out second.out first.went m₀ m₁ m₂ first.output second.output first.written)
-          first.abort second.abort;
       stays = λ why e.
           let x = first.stays why e in
           let y = second.stays why (ap (λ (n : Node). n.stopped) x.same ∙ e) in
@@ -367,11 +382,6 @@ went-then a b c m₀ m₁ m₂ p q r first second =
             unread = (nothing_then first.read second.read x.unread y.unread).0;
             none = nothing_more first.gain second.gain x.none y.none;
           };
-      stages = second.stages ∙ first.stages;
-      sink = second.sink ∙ first.sink;
-      most = second.most ∙ first.most;
-      pipe = second.pipe ∙ first.pipe;
-      pipes = second.pipes ∙ first.pipes;
     }
 
 -- one that had stopped is as it was
@@ -392,6 +402,7 @@ pub record SameCounts (a b : Node) : Type 0 where
   pub output : b.output ≡ a.output
   pub abort : b.abort ≡ a.abort
   pub stages : stages_in b ≡ stages_in a
+  pub source : b.source ≡ a.source
   pub sink : b.sink ≡ a.sink
   pub most : b.most ≡ a.most
   pub pipe : b.pipe ≡ a.pipe
@@ -399,7 +410,7 @@ pub record SameCounts (a b : Node) : Type 0 where
 
 pub only-same : (a b : Node) → OnlyRealm a b → SameCounts a b
 only-same a b only =
-    rw only.is (record { taken = refl; ahead = λ e. refl; input = refl; output = refl; abort = refl; stages = refl; sink = refl; most = refl; pipe = refl; pipes = refl })
+    rw only.is (record { taken = refl; ahead = λ e. refl; input = refl; output = refl; abort = refl; stages = refl; source = refl; sink = refl; most = refl; pipe = refl; pipes = refl })
 
 -- nothing was read or written, and what lies in the node went on
 pub went-quietly : (a b : Node) (m : Moment) (p q : List ℕ → Type 0) → Gains p q [] → Stays a b → SameCounts a b
@@ -411,22 +422,24 @@ went-quietly a b m p q gained stays same goes =
       went = nothing_yet;
       gain = [];
       out = MayCome;
-      fed = Fed-nothing m.feed;
-      gained = gained;
-      written = (refl, refl);
-      short = All-nil (λ c. length c ≤ 4096);
-      goes = goes;
-      counted = omega arith;
+      core = record { moves = (record { stages = same.stages; goes = goes }, tt); pipe = same.pipe; pipes = same.pipes };
+      from = record {
+        fed = Fed-nothing m.feed;
+        short = All-nil (λ c. length c ≤ 4096);
+        counted = omega arith;
+        input = subst (λ x. InputGoes a.input x nothing_yet m m) (sym same.input) (input-same a.input m);
+        source = same.source;
+        most = same.most;
+      };
+      into = record {
+        gained = gained;
+        written = (refl, refl);
+        output = subst (λ x. OutputGoes a.output x [] MayCome m m) (sym same.output) (output-same a.output m);
+        abort = subst (λ x. AbortGoes a.abort x [] [] b.output) (sym same.abort) (abort-same a.abort [] b.output);
+        sink = same.sink;
+      };
       ahead = λ none. let ahead = same.ahead none in omega arith;
-      input = subst (λ x. InputGoes a.input x nothing_yet m m) (sym same.input) (input-same a.input m);
-      output = subst (λ x. OutputGoes a.output x [] MayCome m m) (sym same.output) (output-same a.output m);
-      abort = subst (λ x. AbortGoes a.abort x [] [] b.output) (sym same.abort) (abort-same a.abort [] b.output);
       stays = λ why e. record { same = stays why e; still = refl; unread = refl; none = refl };
-      stages = same.stages;
-      sink = same.sink;
-      most = same.most;
-      pipe = same.pipe;
-      pipes = same.pipes;
     }
 
 pub length-machines : (ss : List Stage) → length (machines ss) ≡ length ss
@@ -447,7 +460,7 @@ works-count shape a stages = length-works a.stages.items ∙ ap length stages
 pub went-same : (a : Node) (m : Moment) (p : List ℕ → Type 0) → Went a a m m p p
 went-same a m p =
     went-quietly a a m p p (Gains-nothing p) (λ why e. refl)
-    (record { taken = refl; ahead = λ e. refl; input = refl; output = refl; abort = refl; stages = refl; sink = refl; most = refl; pipe = refl; pipes = refl })
+    (record { taken = refl; ahead = λ e. refl; input = refl; output = refl; abort = refl; stages = refl; source = refl; sink = refl; most = refl; pipe = refl; pipes = refl })
     (goes_rests (machines (stages_in a)) 0 (works_in a) (lies_in a) (lies_in a) (as-many a) (λ j h k. short_refl (lies_in a j)))
 
 -- only the realm changed, and of what lay at each place nothing is lost unseen
@@ -465,12 +478,12 @@ pub fed-went : (ss : List Stage) (a b : Node) (m₀ m₁ : Moment) (p q : List �
 fed-went ss a b m₀ m₁ p q fed stages went =
     let ms : List Machine = machines ss in
     let goes : Goes ms went.read (parts a) (lying a) (parts b) (then_told went.went (lying b)) =
-    subst (λ q. Goes (machines q) went.read (parts a) (lying a) (parts b) (then_told went.went (lying b))) stages went.goes in
+    subst (λ q. Goes (machines q) went.read (parts a) (lying a) (parts b) (then_told went.went (lying b))) stages went.core.moves.0.goes in
     record {
       came = then_told fed.came went.read;
       went = then_told fed.went went.went;
-      short = short-pieces fed.came went.read fed.short went.short;
-      goes_on = still-open a.output b.output went.gain went.out fed.went went.went m₀ m₁ went.output went.written fed.goes_on;
+      short = short-pieces fed.came went.read fed.short went.from.short;
+      goes_on = still-open a.output b.output went.gain went.out fed.went went.went m₀ m₁ went.into.output went.into.written fed.goes_on;
       flows =
           subst (λ q. Goes ms (then_told fed.came went.read) (fresh ms) nothing_yet (parts b) q) (sym (then_assoc fed.went went.went (lying b)))
           (goes_then ms fed.came went.read (fresh ms) nothing_yet (parts a) (then_told fed.went (lying a)) (parts b) (then_told fed.went (then_told went.went (lying b))) fed.flows

@@ -253,23 +253,34 @@ module _ (wf : ℕ) (finished : Option Bool) (p : List ℕ → Type 0) (shape : 
             went = nothing_yet;
             gain = [];
             out = MayCome;
-            fed = fed;
-            gained = Gains-nothing p;
-            written = (refl, refl);
-            short = short;
-            goes = reads-goes shape a b read s.led.is_of.stages (ap (λ (q : Node). works_in q) h.only.is) first
-                (λ j less. passes-at shape a c j (coming b) b (coming_is j) (silent j) (h.short (coming b) (suc j) less));
-            counted = taken_is ∙ counted;
+            core = record {
+              moves = (
+                record {
+                  stages = same.stages;
+                  goes = reads-goes shape a b read s.led.is_of.stages (ap (λ (q : Node). works_in q) h.only.is) first
+                      (λ j less. passes-at shape a c j (coming b) b (coming_is j) (silent j) (h.short (coming b) (suc j) less));
+                },
+                tt,
+              );
+              pipe = same.pipe;
+              pipes = same.pipes;
+            };
+            from = record {
+              fed = fed;
+              short = short;
+              counted = taken_is ∙ counted;
+              input = subst (λ q. InputGoes a.input q read m₀ m₁) (sym input_is) goes_in;
+              most = same.most;
+            };
+            into = record {
+              gained = Gains-nothing p;
+              written = (refl, refl);
+              output = subst (λ o. OutputGoes a.output o [] MayCome m₀ m₁) (sym same.output) (output-calm a.output wf finished before now old new);
+              abort = subst (λ x. AbortGoes a.abort x [] [] b.output) (sym same.abort) (abort-same a.abort [] b.output);
+              sink = same.sink;
+            };
             ahead = λ e. omega arith;
-            input = subst (λ q. InputGoes a.input q read m₀ m₁) (sym input_is) goes_in;
-            output = subst (λ o. OutputGoes a.output o [] MayCome m₀ m₁) (sym same.output) (output-calm a.output wf finished before now old new);
-            abort = subst (λ x. AbortGoes a.abort x [] [] b.output) (sym same.abort) (abort-same a.abort [] b.output);
             stays = going-acts a b m₀ m₁ read [] goes;
-            stages = same.stages;
-            sink = same.sink;
-            most = same.most;
-            pipe = same.pipe;
-            pipes = same.pipes;
           };
         }
 

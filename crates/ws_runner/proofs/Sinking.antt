@@ -229,21 +229,26 @@ module _ (shape : Shape) (past : List Entry) (a : Node) (realm : SeenRealm) (sin
                 went = went;
                 gain = gain;
                 out = out;
-                fed = Fed-nothing feed;
-                gained = gained;
-                written = written;
-                short = All-nil (λ c. length c ≤ 4096);
-                goes = goes-out;
-                counted = omega arith;
+                core = record {
+                  moves = (record { stages = ap stages_in b-is; goes = goes-out }, tt);
+                  pipe = ap (λ (n : Node). n.pipe) b-is;
+                  pipes = ap (λ (n : Node). n.pipes_before) b-is;
+                };
+                from = record {
+                  fed = Fed-nothing feed;
+                  short = All-nil (λ c. length c ≤ 4096);
+                  counted = omega arith;
+                  input = subst (λ (i : Input). InputGoes a.input i nothing_yet (shows rf feed old) (shows rf feed new)) (sym i_is) (input-calm a.input rf feed old new);
+                  most = ap (λ (n : Node). n.most) b-is;
+                };
+                into = record {
+                  gained = gained;
+                  written = written;
+                  output = subst (λ (z : Output). OutputGoes a.output z gain out (shows rf feed old) (shows rf feed new)) (sym o_is) out_goes;
+                  abort = subst (λ (z : Option Abort). AbortGoes a.abort z went.items gain b.output) (sym x_is) (subst (λ (z : Output). AbortGoes a.abort x went.items gain z) (sym o_is) abort);
+                  sink = ap (λ (n : Node). n.sink) b-is;
+                };
                 ahead = λ none. let f = ahead none in omega arith;
-                input = subst (λ (i : Input). InputGoes a.input i nothing_yet (shows rf feed old) (shows rf feed new)) (sym i_is) (input-calm a.input rf feed old new);
-                output = subst (λ (z : Output). OutputGoes a.output z gain out (shows rf feed old) (shows rf feed new)) (sym o_is) out_goes;
-                abort = subst (λ (z : Option Abort). AbortGoes a.abort z went.items gain b.output) (sym x_is) (subst (λ (z : Output). AbortGoes a.abort x went.items gain z) (sym o_is) abort);
                 stays = going-acts a b (shows rf feed old) (shows rf feed new) nothing_yet gain goes;
-                stages = ap stages_in b-is;
-                sink = ap (λ (n : Node). n.sink) b-is;
-                most = ap (λ (n : Node). n.most) b-is;
-                pipe = ap (λ (n : Node). n.pipe) b-is;
-                pipes = ap (λ (n : Node). n.pipes_before) b-is;
               };
             }

@@ -1,9 +1,8 @@
 -- How a node goes on, and what it read and wrote meanwhile. One going after another is one.
 use Rattle.std.specs.Prelude.{◌≡◌, ◌≢◌, ◌+◌, ◌<◌, ◌≤◌, ◌^◌, ℕ, List, [], ◌∷◌, ◌++◌, All, length, Option, Some, None}
 use Rattle.std.specs.List.{concat}
-use Rattle.ws_flow.specs.Parts.{Goes}
-use Rattle.ws_flow.specs.Stages.{machines}
-use Rattle.ws_flow.specs.Told.{bytes_of, Mark, Open as MayCome, Closed, Lost, Told, told, then_told, IsShortOf}
+use Rattle.ws_flow.specs.Told.{bytes_of, Mark, Open as MayCome, Closed, Lost, Told, told, IsShortOf}
+use Rattle.ws_segment_laws.specs.Segments.{AllMove, Move, Stretch}
 use Rattle.ws_io.specs.Faults.{Rose}
 use Rattle.ws_io.specs.Feed.{Fed, IsEmpty, IsEnded, KeepsEnd}
 use Rattle.ws_io.specs.Gain.{Gains, Becomes, KeepsTold}
@@ -79,31 +78,43 @@ pub record DoesNothing (a b : Node) (old new : Moment) (read : Told (List ℕ)) 
   pub unread : read ≡ nothing_yet
   pub none : gain ≡ []
 
+-- the segments of a node as they stand: the one that it has
+abbrev pub stretches : Node → List Stretch
+stretches n = record { stages = stages_in n; parts = parts n; behind = lying n } ∷ []
+
+-- How a node goes on by itself, at whatever moments of the outside: so much came into each of its segments, and so much went out of it. What lay before each
+-- stage, and then what came, was taken by it or lies there now, and what the last one made went out or lies behind it, or is cut short of that
+pub record CoreGoes (a b : Node) (ms : List Move) : Type 0 where
+  pub moves : AllMove (stretches a) ms (stretches b)
+  pub pipe : b.pipe ≡ a.pipe
+  pub pipes : b.pipes_before ≡ a.pipes_before
+
+-- What its input adds: what came in was read of it, in some cutting into pieces, none longer than one read, and is counted
+pub record FromGoes (a b : Node) (old new : Moment) (came : Told (List ℕ)) : Type 0 where
+  pub fed : Fed old.feed new.feed (concat came.items)
+  pub short : All (λ c. length c ≤ 4096) came.items
+  pub counted : b.taken ≡ a.taken + length (concat came.items)
+  pub input : InputGoes a.input b.input came old new
+  pub most : b.most ≡ a.most
+
+-- What its output adds: what that gained is what went out, or is cut short of it
+pub record ToGoes (a b : Node) (old new : Moment) (got got' : List ℕ → Type 0) (went : Told (List ℕ)) (gain : List ℕ) (out : Mark) : Type 0 where
+  pub gained : Gains got got' gain
+  pub written : IsShortOf (told gain out) (bytes_of went)
+  pub output : OutputGoes a.output b.output gain out old new
+  pub abort : AbortGoes a.abort b.abort went.items gain b.output
+  pub sink : b.sink ≡ a.sink
+
 -- The node goes from a to b: so much was read, and went through its stages to what went out and what lies in it, whole, or was lost from some place on
 pub record Went (a b : Node) (old new : Moment) (got got' : List ℕ → Type 0) : Type 0 where
   pub read : Told (List ℕ)
   pub went : Told (List ℕ)
   pub gain : List ℕ
   pub out : Mark
-  pub fed : Fed old.feed new.feed (concat read.items)
-  pub gained : Gains got got' gain
-  -- what the output gained is what went out, or is cut short of it
-  pub written : IsShortOf (told gain out) (bytes_of went)
-  -- some cutting of what was read into pieces, none longer: `fed` tells of all its bytes together
-  pub short : All (λ c. length c ≤ 4096) read.items
-  -- what lay before each stage, and then what came, was taken by it or lies there now, and what the last one made went out or lies behind it, or is cut
-  -- short of that
-  pub goes : Goes (machines (stages_in a)) read (parts a) (lying a) (parts b) (then_told went (lying b))
-  -- what was read is counted, and without stages what the output hasn't had is at least what was read and not gained
-  pub counted : b.taken ≡ a.taken + length (concat read.items)
+  pub core : CoreGoes a b (record { came = read; went = went } ∷ [])
+  pub from : FromGoes a b old new read
+  pub into : ToGoes a b old new got got' went gain out
+  -- without stages what the output hasn't had is at least what was read and not gained
   pub ahead : a.stages.items ≡ [] → a.ahead + length (concat read.items) ≤ length gain + b.ahead
-  pub input : InputGoes a.input b.input read old new
-  pub output : OutputGoes a.output b.output gain out old new
-  pub abort : AbortGoes a.abort b.abort went.items gain b.output
   -- one that had stopped does nothing more
   pub stays : (why : Why) → a.stopped ≡ Some why → DoesNothing a b old new read gain
-  pub stages : stages_in b ≡ stages_in a
-  pub sink : b.sink ≡ a.sink
-  pub most : b.most ≡ a.most
-  pub pipe : b.pipe ≡ a.pipe
-  pub pipes : b.pipes_before ≡ a.pipes_before
