@@ -14,7 +14,7 @@ use Rattle.ws_port.specs.declared.rule.View.{View}
 use Rattle.ws_port.specs.Rule.{Place, SenderHolds, ReceiverHolds, IsInOrder, Fits, Kept}
 use Rattle.ws_port.specs.Steps.{incoming, looked_in, MessageIs, WholeIs, FindsPosted, taken_from, Takes}
 use Rattle.ws_port.specs.Ends.{CanTake}
-use Rattle.ws_port.proofs.Views.{Each, fits_receiver}
+use Rattle.ws_port.proofs.Views.{Each, part_stays, fits_receiver}
 use Rattle.ws_port.proofs.Ring.{apart, in_ring, at_below, at_middle, none_held, empty_held, sender_apart}
 
 -- what comes next, where something does
@@ -99,6 +99,8 @@ looks_in slots id me taken eight can s h wide at fits =
         out_known = o;
         in_known = incoming i.received n (i.looks + 1) None;
         in_order = empty_in_order s.words s.homes o i (set s.words 0 n) n l idle is are;
+        has_sender = part_stays (λ (x : View). x.sends) s.views id h.sender me.0 (looked_in me.0 n None) at refl h.has_sender;
+        has_receiver = part_stays (λ (x : View). x.takes) s.views id h.receiver me.0 (looked_in me.0 n None) at refl h.has_receiver;
         fits = fits_receiver h.sender h.receiver o i (incoming i.received n (i.looks + 1) None) s.views id me.0 (looked_in me.0 n None) each at may refl refl refl refl;
       },
       (low, few, whole, subst (λ (b : Bool). MessageIs b me n (looked_in me.0 n None, me.1)) (sym (eq-eqb n (length i.received) nothing)) refl),
@@ -115,6 +117,8 @@ looks_in slots id me taken eight can s h wide at fits =
         out_known = o;
         in_known = incoming i.received n (i.looks + 1) (Some next.0);
         in_order = found_in_order s.words s.homes o i (set s.words 0 n) n next.0 (wide ∙ eight) l idle is are more next.1;
+        has_sender = part_stays (λ (x : View). x.sends) s.views id h.sender me.0 (looked_in me.0 n (Some next.0)) at refl h.has_sender;
+        has_receiver = part_stays (λ (x : View). x.takes) s.views id h.receiver me.0 (looked_in me.0 n (Some next.0)) at refl h.has_receiver;
         fits = fits_receiver h.sender h.receiver o i (incoming i.received n (i.looks + 1) (Some next.0)) s.views id me.0 (looked_in me.0 n (Some next.0)) each at may refl refl refl refl;
       },
       (low, few, whole, subst (λ (b : Bool). MessageIs b me n (looked_in me.0 n (Some next.0), (length i.received % 8, Some next.0) ∷ me.1)) (sym (ne_eqb n (length i.received) something)) (next.0, refl)),
@@ -172,6 +176,8 @@ takes_one slots id new k n u m y eight may is place s h wide at fits =
         out_known = o;
         in_known = i';
         in_order = subst (λ (j : ℕ). IsInOrder (set s.words 1 new) (set s.homes j (some y)) o i') (sym place) (taken_in_order s.words s.homes o i (set s.words 1 new) m y (wide ∙ eight) l refl are);
+        has_sender = part_stays (λ (x : View). x.sends) s.views id h.sender v (taken_from v) at refl h.has_sender;
+        has_receiver = part_stays (λ (x : View). x.takes) s.views id h.receiver v (taken_from v) at refl h.has_receiver;
         fits = fits_receiver h.sender h.receiver o i i' s.views id v (taken_from v) each at may refl refl refl refl;
       },
       (refl, refl),

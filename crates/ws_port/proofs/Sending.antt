@@ -14,7 +14,7 @@ use Rattle.ws_port.specs.declared.rule.View.{View}
 use Rattle.ws_port.specs.Rule.{Place, SenderHolds, ReceiverHolds, IsInOrder, Fits, Kept}
 use Rattle.ws_port.specs.Steps.{outgoing, looked_out, RoomIs, FindsTaken, posted_from, Posts}
 use Rattle.ws_port.specs.Ends.{CanPost}
-use Rattle.ws_port.proofs.Views.{Each, fits_sender}
+use Rattle.ws_port.proofs.Views.{Each, part_stays, fits_sender}
 use Rattle.ws_port.proofs.Ring.{apart, in_ring, at_below, at_before, idle_held, receiver_apart}
 
 -- The look, where the row is full
@@ -86,6 +86,8 @@ looks_out slots id me posted eight can s h wide at fits =
         out_known = outgoing o.sent n (o.looks + 1) false;
         in_known = i;
         in_order = full_in_order s.words s.homes o i (set s.words 1 n) n l idle is are;
+        has_sender = part_stays (λ (x : View). x.sends) s.views id h.sender me.0 (looked_out me.0 n false) at refl h.has_sender;
+        has_receiver = part_stays (λ (x : View). x.takes) s.views id h.receiver me.0 (looked_out me.0 n false) at refl h.has_receiver;
         fits = fits_sender h.sender h.receiver o (outgoing o.sent n (o.looks + 1) false) i s.views id me.0 (looked_out me.0 n false) each at may refl refl refl refl;
       },
       (below, above, subst (λ (b : Bool). RoomIs b me n (looked_out me.0 n false, me.1)) (sym (eq-eqb (length o.sent) (n + 8) full)) refl),
@@ -102,6 +104,8 @@ looks_out slots id me posted eight can s h wide at fits =
         out_known = outgoing o.sent n (o.looks + 1) true;
         in_known = i;
         in_order = room_in_order s.words s.homes o i (set s.words 1 n) n (wide ∙ eight) l idle is are room;
+        has_sender = part_stays (λ (x : View). x.sends) s.views id h.sender me.0 (looked_out me.0 n true) at refl h.has_sender;
+        has_receiver = part_stays (λ (x : View). x.takes) s.views id h.receiver me.0 (looked_out me.0 n true) at refl h.has_receiver;
         fits = fits_sender h.sender h.receiver o (outgoing o.sent n (o.looks + 1) true) i s.views id me.0 (looked_out me.0 n true) each at may refl refl refl refl;
       },
       (below, above, subst (λ (b : Bool). RoomIs b me n (looked_out me.0 n true, (length o.sent % 8, there.0) ∷ me.1)) (sym (ne_eqb (length o.sent) (n + 8) not_full)) (there.0, refl)),
@@ -165,6 +169,8 @@ posts_one slots id new k n u m eight may few is place s h wide at fits =
         out_known = o';
         in_known = i;
         in_order = subst (λ (j : ℕ). IsInOrder (set s.words 0 new) (set s.homes j (some (Some m))) o' i) (sym place) (posted_in_order s.words s.homes o i (set s.words 0 new) m (wide ∙ eight) l refl few are);
+        has_sender = part_stays (λ (x : View). x.sends) s.views id h.sender v w at refl h.has_sender;
+        has_receiver = part_stays (λ (x : View). x.takes) s.views id h.receiver v w at refl h.has_receiver;
         fits = fits_sender h.sender h.receiver o o' i s.views id v w each at may refl refl refl refl;
       },
       (refl, refl),

@@ -1,12 +1,15 @@
 -- The views of a row's seats, where one of them changes.
-use Rattle.std.proofs.Common.{◌≡◌, ◌≢◌, ℕ, zero, suc, true, List, [], ◌∷◌, ◌++◌, length, set, sym, refl, ap, ◌∙◌, subst, ⊎_elim}
-use mathlib.Core.Option.{some, some-ne-none}
+use Rattle.std.proofs.Common.{◌≡◌, ◌≢◌, ℕ, zero, suc, Bool, true, List, [], ◌∷◌, ◌++◌, length, set, sym, refl, ap, ◌∙◌, subst, ⊎_elim}
+use mathlib.Core.Option.{some, some-ne-none, some-injective}
+use mathlib.Core.Logic.{dite}
+use native.Mathlib.Decide.{ℕ_discrete}
 use lib.ListN.{get_elem?}
-use Rattle.atomic_table.proofs.Lists.{at_set}
+use Rattle.atomic_table.proofs.Lists.{at_set, set_here, set_else}
 use Rattle.ws_port.specs.declared.rule.Outgoing.{Outgoing}
 use Rattle.ws_port.specs.declared.rule.Incoming.{Incoming}
 use Rattle.ws_port.specs.declared.rule.View.{View}
-use Rattle.ws_port.specs.Rule.{Fits}
+use Rattle.ws_port.specs.Rule.{Fits, HasPart}
+use Rattle.ws_port.proofs.Ring.{at_below}
 
 abbrev pub Each : (ℕ → View → Type 0) → List View → Type 0
 Each F views = (seat : ℕ) (v : View) → get_elem? views seat ≡ some v → F seat v
@@ -34,3 +37,13 @@ pub fits_receiver : (sender receiver : ℕ) (o : Outgoing) (i i' : Incoming) (vi
 fits_receiver sender receiver o i i' views seat v w h at may s t old new = let mine = h seat v at in
     each_set (Fits sender receiver o i') views seat w ((λ p. ((mine.0 (sym s ∙ p)).0, old ∙ (mine.0 (sym s ∙ p)).1)), λ _. ((mine.1 may).0, new))
     (λ j u other e. ((h j u e).0, λ p. absurd (other (((h j u e).1 p).0 ∙ sym (mine.1 may).0))))
+
+-- who has a part still has it
+pub part_stays : (part : View → Bool) (views : List View) (seat at : ℕ) (v w : View) → get_elem? views seat ≡ some v → part w ≡ part v → HasPart part views at → HasPart part (set views seat w) at
+part_stays part views seat at v w e same h = dite (ℕ_discrete at seat)
+    (λ here. (
+      w,
+      ap (λ (j : ℕ). get_elem? (set views seat w) j) here ∙ set_here views seat w (at_below views seat v e),
+      same ∙ ap part (some-injective v h.0 (sym e ∙ ap (λ (j : ℕ). get_elem? views j) (sym here) ∙ h.1)) ∙ h.2,
+    ))
+    (λ else. (h.0, set_else views seat at w else ∙ h.1, h.2))

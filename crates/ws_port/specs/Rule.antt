@@ -1,5 +1,5 @@
 -- The rule of a row: what holds of its words and places beside what its two ends know, at every moment, whatever they do.
-use Rattle.std.specs.Prelude.{◌≡◌, ℕ, true, List, [], ◌∷◌, ◌++◌, ◌+◌, ◌%◌, ◌^◌, ◌<◌, ◌≤◌, ◌⊎◌, length, Option, Some, IsSome, IfSome}
+use Rattle.std.specs.Prelude.{◌≡◌, ℕ, Bool, true, List, [], ◌∷◌, ◌++◌, ◌+◌, ◌%◌, ◌^◌, ◌<◌, ◌≤◌, ◌⊎◌, length, Option, Some, IsSome, IfSome}
 use mathlib.Core.Option.{Option as Slot, some, none}
 use lib.ListN.{get_elem?}
 use Rattle.atomic_table.specs.Table.{State}
@@ -47,15 +47,20 @@ pub record IsInOrder (words : List ℕ) (homes : List (Slot Place)) (o : Outgoin
   pub away : (place : ℕ) → IsHeld o i place → get_elem? homes place ≡ some none
   pub at_home : (place : ℕ) → place < 8 → ¬ IsHeld o i place → (y : Place) × (get_elem? homes place ≡ some (some y))
 
--- A seat with the sender's part is the sender's, and its view is what the sender knows. The same for the receiver. A seat whose view was spent has neither part
+-- A seat with the sender's part is the sender's, and its view is what the sender knows; the same for the receiver. A seat whose view was spent has neither part
 abbrev pub Fits : ℕ → ℕ → Outgoing → Incoming → ℕ → View → Type 0
 Fits sender receiver o i seat v = (v.sends ≡ true → (seat ≡ sender) × (v.outgoing ≡ o)) × (v.takes ≡ true → (seat ≡ receiver) × (v.incoming ≡ i))
 
--- The rule
+abbrev pub HasPart : (View → Bool) → List View → ℕ → Type 0
+HasPart part views seat = (v : View) × (get_elem? views seat ≡ some v) × (part v ≡ true)
+
+-- The rule. Each part has one seat: the same one before a new row's seat is split, when nothing was received, and after the two are joined
 pub record Kept (s : State Place View) : Type 0 where
   pub sender : ℕ
   pub receiver : ℕ
   pub out_known : Outgoing
   pub in_known : Incoming
   pub in_order : IsInOrder s.words s.homes out_known in_known
+  pub has_sender : HasPart (λ v. v.sends) s.views sender
+  pub has_receiver : HasPart (λ v. v.takes) s.views receiver
   pub fits : (seat : ℕ) (v : View) → get_elem? s.views seat ≡ some v → Fits sender receiver out_known in_known seat v
