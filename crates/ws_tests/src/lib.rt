@@ -1,5 +1,5 @@
 //! What no clause, example or case of cases/ says: calls of the program over objects in memory and adapters that
-//! fail or move little at a time.
+//! fail or move little at a time, and rows of messages between threads.
 #![tactic(auto)]
 
 #[cfg(test)]
@@ -12,5 +12,7 @@ mod held;
 mod memory;
 #[cfg(test)]
 mod paces;
+#[cfg(test)]
+mod ports;
 #[cfg(test)]
 mod whole;
