@@ -11,6 +11,7 @@ pub mod prints;
 pub mod promises;
 pub mod queues;
 pub mod readables;
+pub mod rows;
 pub mod stages;
 pub mod tees;
 pub mod transforms;
