@@ -1,5 +1,5 @@
 //! The two ends of a row.
-ghost use Rattle.std.specs.Prelude.{◌≡◌, true, [], ◌∷◌, ◌++◌, ◌<◌, ◌^◌, length, IfOk, MatchResult, MatchOption};
+ghost use Rattle.std.specs.Prelude.{◌≡◌, true, [], ◌∷◌, ◌++◌, ◌<◌, ◌^◌, length, IfOk, IfErr, IfSome, IfNone, OnOk};
 ghost use Rattle.std.specs.Arc.{arc_value};
 ghost use Rattle.crossbeam_queue.specs.Passes.{view, IsPassOf, ruled_capacity};
 ghost use Rattle.ws_port.specs.declared.ends.PostRefused.TheVariants.{Full};
@@ -68,7 +68,8 @@ impl Sender {
     pub fn post<R: Wait>(&mut self, rt: &R, m: Message) -> Result<(), PostRefused>
         requires { length self.old.sent < 2 ^ 62 }
         ensures row { self.new.row ≡ self.old.row }
-        ensures sent { MatchResult result (λ _. self.new.sent ≡ self.old.sent ++ m ∷ []) (λ refused. (refused ≡ Full m) × (self.new.sent ≡ self.old.sent)) }
+        ensures posted { OnOk result (self.new.sent ≡ self.old.sent ++ m ∷ []) }
+        ensures refused { IfErr result (λ refused. (refused ≡ Full m) × (self.new.sent ≡ self.old.sent)) }
     {
         match self.line.push_as::<Post, R>(rt, &mut self.pass, m) {
             Ok(()) => Ok(()),
@@ -81,7 +82,8 @@ impl Receiver {
     /// Takes the next message. There is none where the row was empty at one moment of the call.
     pub fn take<R: Wait>(&mut self, rt: &R) -> Option<Message>
         ensures row { self.new.row ≡ self.old.row }
-        ensures received { MatchOption result (self.new.received ≡ self.old.received) (λ m. self.new.received ≡ self.old.received ++ m ∷ []) }
+        ensures taken { IfSome result (λ m. self.new.received ≡ self.old.received ++ m ∷ []) }
+        ensures untaken { IfNone result (self.new.received ≡ self.old.received) }
     {
         self.line.pop_as::<Take, R>(rt, &mut self.pass)
     }

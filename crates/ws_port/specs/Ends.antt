@@ -1,5 +1,5 @@
 -- What a clause sees of the ends of a row, and what holds of them between two calls.
-use Rattle.std.specs.Prelude.{◌≡◌, ℕ, true, false, List, [], length, None}
+use Rattle.std.specs.Prelude.{◌≡◌, ℕ, ◌+◌, ◌≤◌, true, false, List, [], length, None}
 use Rattle.atomic_table.specs.Table.{Me}
 use Rattle.atomic_table.specs.Seated.{TableId}
 use Rattle.ws_value.specs.declared.value.Message.{Message}
@@ -30,3 +30,7 @@ CanPost v posted = (v.1 ≡ []) × (v.0.sends ≡ true) × (v.0.outgoing.holds �
 
 abbrev pub CanTake : Me Place View → ℕ → Type 0
 CanTake v taken = (v.1 ≡ []) × (v.0.takes ≡ true) × (v.0.incoming.held ≡ None) × (taken ≡ length v.0.incoming.received)
+
+-- a seat with both parts: at most eight more were sent than were received before, and no more are received now than were sent
+abbrev pub IsWithin : View → View → Type 0
+IsWithin old new = (length old.outgoing.sent ≤ length old.incoming.received + 8) × (length new.incoming.received ≤ length old.outgoing.sent)

@@ -27,7 +27,8 @@ IsHeld o i place = SenderHolds o place ⊎ ReceiverHolds i place
 pub record IsInOrder (words : List ℕ) (homes : List (Slot Place)) (o : Outgoing) (i : Incoming) : Type 0 where
   -- the word `posted` is how many were sent, and the word `taken` how many were received
   pub words_are : words ≡ length o.sent ∷ length i.received ∷ []
-  -- what the sender last found taken ≤ taken ≤ what the receiver last found posted ≤ posted ≤ what the sender last found taken + 8
+  -- what the sender last found taken ≤ taken ≤ what the receiver last found posted ≤ posted
+  -- ≤ what the sender last found taken + 8
   pub sender_found : o.seen ≤ length i.received
   pub receiver_has : length i.received ≤ i.seen
   pub receiver_found : i.seen ≤ length o.sent
@@ -47,14 +48,16 @@ pub record IsInOrder (words : List ℕ) (homes : List (Slot Place)) (o : Outgoin
   pub away : (place : ℕ) → IsHeld o i place → get_elem? homes place ≡ some none
   pub at_home : (place : ℕ) → place < 8 → ¬ IsHeld o i place → (y : Place) × (get_elem? homes place ≡ some (some y))
 
--- A seat with the sender's part is the sender's, and its view is what the sender knows; the same for the receiver. A seat whose view was spent has neither part
+-- A seat with the sender's part is the sender's, and its view is what the sender knows; the same for the receiver. A view that was
+-- spent has neither part
 abbrev pub Fits : ℕ → ℕ → Outgoing → Incoming → ℕ → View → Type 0
 Fits sender receiver o i seat v = (v.sends ≡ true → (seat ≡ sender) × (v.outgoing ≡ o)) × (v.takes ≡ true → (seat ≡ receiver) × (v.incoming ≡ i))
 
 abbrev pub HasPart : (View → Bool) → List View → ℕ → Type 0
 HasPart part views seat = (v : View) × (get_elem? views seat ≡ some v) × (part v ≡ true)
 
--- The rule. Each part has one seat: the same one before a new row's seat is split, when nothing was received, and after the two are joined
+-- The rule. Each part has one seat: the same one before a new row's seat is split, when nothing was received, and after the two
+-- are joined
 pub record Kept (s : State Place View) : Type 0 where
   pub sender : ℕ
   pub receiver : ℕ

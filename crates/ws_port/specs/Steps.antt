@@ -1,4 +1,5 @@
--- The steps of a row, and what each tells the seat that makes it. A view changes at a step on a word alone: the putting of a message into a place that a seat holds, and the taking of one out of it, change only what the seat has.
+-- The steps of a row, and what each tells the seat that makes it. A view changes at a step on a word alone: the putting of a
+-- message into a place that a seat holds, and the taking of one out of it, change only what the seat has.
 --     the sender loads `taken`       FindsTaken: here it is decided whether the row is full
 --     the sender stores `posted`     Posts: the post
 --     the receiver loads `posted`    FindsPosted: here it is decided whether the row is empty
@@ -75,7 +76,8 @@ looked_in v n held = view v.sends v.takes v.outgoing (incoming v.incoming.receiv
 abbrev pub MessageIs : Bool → Me Place View → ℕ → Me Place View → Type 0
 MessageIs nothing v n w = MatchBool nothing (w ≡ (looked_in v.0 n None, v.1)) ((m : Message) × (w ≡ (looked_in v.0 n (Some m), (length v.0.incoming.received % 8, Some m) ∷ v.1)))
 
--- a seat with both parts learns of the whole row: n is how many were sent, at most eight more than were received, and what was received is a first part of it
+-- a seat with both parts learns of the whole row: n is how many were sent, at most eight more than were received, and what was
+-- received is a first part of it
 abbrev pub WholeIs : View → ℕ → Type 0
 WholeIs v n = v.sends ≡ true → (n ≡ length v.outgoing.sent) × (n ≤ length v.incoming.received + 8) × ((rest : List Message) × (v.outgoing.sent ≡ v.incoming.received ++ rest))
 

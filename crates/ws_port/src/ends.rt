@@ -1,8 +1,8 @@
 //! The two ends of a row.
-ghost use Rattle.std.specs.Prelude.{◌≡◌, true, [], ◌∷◌, ◌++◌, ◌+◌, ◌<◌, ◌≤◌, ◌^◌, length, IfOk, IfSome, IfNone, MatchResult, MatchOption};
+ghost use Rattle.std.specs.Prelude.{◌≡◌, true, [], ◌∷◌, ◌++◌, ◌+◌, ◌<◌, ◌≤◌, ◌^◌, length, IfOk, IfErr, IfSome, IfNone, OnOk, OnErr, OnSome};
 ghost use Rattle.std.specs.Arc.{arc_value};
 ghost use Rattle.ws_port.specs.declared.ends.PostRefused.TheVariants.{Full};
-ghost use Rattle.ws_port.specs.Ends.{IsAtRow, CanPost, CanTake, Posted, Taken};
+ghost use Rattle.ws_port.specs.Ends.{IsAtRow, CanPost, CanTake, IsWithin, Posted, Taken};
 
 use crate::rule::{Board, Chair, LookForMessage, LookForRoom, Parts, Post, Take};
 use std::alloc::Global;
@@ -86,7 +86,10 @@ impl Sender {
         requires { length self.old.sent < 2 ^ 62 }
         ensures row { self.new.row ≡ self.old.row }
         ensures looked { self.new.looks ≡ self.old.looks + 1 }
-        ensures sent { MatchResult result (λ _. (self.new.sent ≡ self.old.sent ++ m ∷ []) × (length self.old.sent < self.new.seen + 8)) (λ refused. (refused ≡ Full m) × (self.new.sent ≡ self.old.sent) × (length self.new.sent ≡ self.new.seen + 8)) }
+        ensures posted { OnOk result (self.new.sent ≡ self.old.sent ++ m ∷ []) }
+        ensures room { OnOk result (length self.old.sent < self.new.seen + 8) }
+        ensures full { OnErr result (length self.old.sent ≡ self.new.seen + 8) }
+        ensures refused { IfErr result (λ refused. (refused ≡ Full m) × (self.new.sent ≡ self.old.sent)) }
     {
         let taken = self.board.shared.load::<LookForRoom>(&mut self.seat, TAKEN);
         if self.posted == taken + 8 {
@@ -107,7 +110,10 @@ impl Receiver {
     pub fn take(&mut self) -> Option<Message>
         ensures row { self.new.row ≡ self.old.row }
         ensures looked { self.new.looks ≡ self.old.looks + 1 }
-        ensures received { MatchOption result ((self.new.received ≡ self.old.received) × (self.new.seen ≡ length self.new.received)) (λ m. (self.new.received ≡ self.old.received ++ m ∷ []) × (length self.old.received < self.new.seen)) }
+        ensures taken { IfSome result (λ m. self.new.received ≡ self.old.received ++ m ∷ []) }
+        ensures found { OnSome result (length self.old.received < self.new.seen) }
+        ensures empty { IfNone result (length self.old.received ≡ self.new.seen) }
+        ensures untaken { IfNone result (self.new.received ≡ self.old.received) }
     {
         take_at(&self.board, &mut self.seat, &mut self.taken)
     }
@@ -121,9 +127,12 @@ pub(crate) fn take_at(board: &Board, seat: &mut Chair, taken: &mut u64) -> Optio
     ensures seat { CanTake seat.new.me taken.new }
     ensures parts { (seat.new.me.0.sends ≡ seat.old.me.0.sends) × (seat.new.me.0.outgoing ≡ seat.old.me.0.outgoing) }
     ensures looked { seat.new.me.0.incoming.looks ≡ seat.old.me.0.incoming.looks + 1 }
-    ensures none { IfNone result ((seat.new.me.0.incoming.received ≡ seat.old.me.0.incoming.received) × (seat.new.me.0.incoming.seen ≡ length seat.new.me.0.incoming.received) × (seat.old.me.0.sends ≡ true → seat.old.me.0.outgoing.sent ≡ seat.new.me.0.incoming.received)) }
-    ensures some { IfSome result (λ m. (seat.new.me.0.incoming.received ≡ seat.old.me.0.incoming.received ++ m ∷ []) × (length seat.old.me.0.incoming.received < seat.new.me.0.incoming.seen)) }
-    ensures whole { seat.old.me.0.sends ≡ true → (length seat.old.me.0.outgoing.sent ≤ length seat.old.me.0.incoming.received + 8) × (length seat.new.me.0.incoming.received ≤ length seat.old.me.0.outgoing.sent) }
+    ensures taken { IfSome result (λ m. seat.new.me.0.incoming.received ≡ seat.old.me.0.incoming.received ++ m ∷ []) }
+    ensures found { OnSome result (length seat.old.me.0.incoming.received < seat.new.me.0.incoming.seen) }
+    ensures empty { IfNone result (length seat.old.me.0.incoming.received ≡ seat.new.me.0.incoming.seen) }
+    ensures untaken { IfNone result (seat.new.me.0.incoming.received ≡ seat.old.me.0.incoming.received) }
+    ensures whole { seat.old.me.0.sends ≡ true → IsWithin seat.old.me.0 seat.new.me.0 }
+    ensures all { IfNone result (seat.old.me.0.sends ≡ true → seat.old.me.0.outgoing.sent ≡ seat.new.me.0.incoming.received) }
 {
     let posted = board.shared.load::<LookForMessage>(seat, POSTED);
     if posted == *taken {

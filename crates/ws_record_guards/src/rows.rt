@@ -1,5 +1,5 @@
 //! Rows of messages between threads.
-ghost use Rattle.std.specs.Prelude.{◌≡◌, [], ◌∷◌, ◌++◌, ◌+◌, ◌-◌, ◌<◌, ◌^◌, length, MatchOption, MatchResult};
+ghost use Rattle.std.specs.Prelude.{◌≡◌, [], ◌∷◌, ◌++◌, ◌+◌, ◌-◌, ◌<◌, ◌^◌, length, IfErr, IfNone, IfSome, OnErr, OnOk, OnSome};
 ghost use Rattle.ws_port.specs.Rest.{messages_in, filled_from};
 ghost use Rattle.ws_port.specs.declared.ends.PostRefused.TheVariants.{Full};
 
@@ -11,7 +11,10 @@ pub fn post(sender: &mut Sender, m: Message) -> Result<(), PostRefused>
     requires { length sender.old.sent < 2 ^ 62 }
     ensures row { sender.new.row ≡ sender.old.row }
     ensures looked { sender.new.looks ≡ sender.old.looks + 1 }
-    ensures sent { MatchResult result (λ _. (sender.new.sent ≡ sender.old.sent ++ m ∷ []) × (length sender.old.sent < sender.new.seen + 8)) (λ refused. (refused ≡ Full m) × (sender.new.sent ≡ sender.old.sent) × (length sender.new.sent ≡ sender.new.seen + 8)) }
+    ensures posted { OnOk result (sender.new.sent ≡ sender.old.sent ++ m ∷ []) }
+    ensures room { OnOk result (length sender.old.sent < sender.new.seen + 8) }
+    ensures full { OnErr result (length sender.old.sent ≡ sender.new.seen + 8) }
+    ensures refused { IfErr result (λ refused. (refused ≡ Full m) × (sender.new.sent ≡ sender.old.sent)) }
 {
     sender.post(m)
 }
@@ -20,7 +23,10 @@ pub fn post(sender: &mut Sender, m: Message) -> Result<(), PostRefused>
 pub fn take(receiver: &mut Receiver) -> Option<Message>
     ensures row { receiver.new.row ≡ receiver.old.row }
     ensures looked { receiver.new.looks ≡ receiver.old.looks + 1 }
-    ensures received { MatchOption result ((receiver.new.received ≡ receiver.old.received) × (receiver.new.seen ≡ length receiver.new.received)) (λ m. (receiver.new.received ≡ receiver.old.received ++ m ∷ []) × (length receiver.old.received < receiver.new.seen)) }
+    ensures taken { IfSome result (λ m. receiver.new.received ≡ receiver.old.received ++ m ∷ []) }
+    ensures found { OnSome result (length receiver.old.received < receiver.new.seen) }
+    ensures empty { IfNone result (length receiver.old.received ≡ receiver.new.seen) }
+    ensures untaken { IfNone result (receiver.new.received ≡ receiver.old.received) }
 {
     receiver.take()
 }

@@ -9,9 +9,9 @@ messages-preserved c = let inv = c.messages.invariant in let whole = c.take_at.e
     let within = subst (λ (o : Outgoing). length c.take_at.new.seat.me.0.incoming.received ≤ length o.sent) inv.can.2 whole.1 in record {
       table = (c.take_at.ensures.table ∙ inv.table.0, ap (λ z. z.words) c.take_at.ensures.table ∙ inv.table.1, ap (λ z. z.slots) c.take_at.ensures.table ∙ inv.table.2);
       can = (c.take_at.ensures.seat, c.take_at.ensures.parts.0 ∙ inv.can.1, c.take_at.ensures.parts.1 ∙ inv.can.2);
-      so_far = emptied_next _ _ _ _ _ _ c.in-Some.m inv.so_far c.in-Some.ensures.some.0 bound within;
+      so_far = emptied_next _ _ _ _ _ _ c.in-Some.m inv.so_far c.in-Some.ensures.taken bound within;
     }
 
 pub returns-in-None : goal.returns-in-None
-returns-in-None c = let inv = c.messages.invariant in let all = ap (λ (o : Outgoing). o.sent) (sym inv.can.2) ∙ c.in-None.ensures.none.2 inv.can.1 in
-    let r = emptied_last _ _ _ _ _ inv.so_far (all ∙ c.in-None.ensures.none.0) in record { rest = r.0; count = r.1; places = r.2 }
+returns-in-None c = let inv = c.messages.invariant in let all = ap (λ (o : Outgoing). o.sent) (sym inv.can.2) ∙ c.in-None.ensures.all inv.can.1 in
+    let r = emptied_last _ _ _ _ _ inv.so_far (all ∙ c.in-None.ensures.untaken) in record { rest = r.0; count = r.1; places = r.2 }
