@@ -29,6 +29,7 @@ pub mod Settled
 pub mod Settling
 pub mod Shut
 pub mod Since
+pub mod Sound
 pub mod Sinking
 pub mod Staged
 pub mod StillOpen

@@ -8,5 +8,6 @@ pub mod Opening
 pub mod Past
 pub mod Ran
 pub mod Shape
+pub mod Sound
 pub mod Turns
 pub mod Went

@@ -1,5 +1,6 @@
 //! What holds of every node, told of its definitions alone.
 ghost use Rattle.ws_runner.specs.Flow.{EachGoesOn, EachNodeKeepsFlow};
+ghost use Rattle.ws_runner.specs.Sound.{EachSoundNodeIsWhole};
 
 use ws_io::Sink;
 
@@ -15,6 +16,18 @@ use ws_io::Sink;
 /// Of: nodes, stages.
 pub fn each_node_keeps_flow()
     ensures { EachNodeKeepsFlow }
+{}
+
+/// While nothing of a node has failed, what went out and what lies in it, through the stages that it hasn't passed, is
+/// all that the stages make of what was read.
+///
+/// No end of a link is erroring or errored, no pipe has an error, no call of the input or output has failed, neither the
+/// limit of the run nor its abort was reached, and memory wasn't wanting. A stage that was bad hides nothing: what it
+/// put out before goes on.
+///
+/// Of: nodes, stages, links.
+pub fn each_sound_node_is_whole()
+    ensures { EachSoundNodeIsWhole }
 {}
 
 /// What `Whole::turn` tells of a turn (`Went`) holds of no turn at all, and of two together where it holds of one and

@@ -1,0 +1,32 @@
+-- A node of which nothing failed.
+use Rattle.std.specs.Prelude.{◌≡◌, ◌≢◌, ◌≤◌, ℕ, List, length, None}
+use Rattle.ws_flow.specs.declared.plan.Plan.{Plan}
+use Rattle.ws_flow.specs.Machines.{all_through}
+use Rattle.ws_flow.specs.Parts.{residual}
+use Rattle.ws_flow.specs.Plans.{stages_of}
+use Rattle.ws_flow.specs.Stages.{machines}
+use Rattle.ws_flow.specs.Told.{Mark, Lost, Told, then_told}
+use Rattle.ws_io.specs.Moment.{Moment}
+use Rattle.ws_chain_laws.specs.Chain.{source_of, dest_of, link_of}
+use Rattle.ws_chain_laws.specs.Sound.{IsSound}
+use Rattle.ws_runner.specs.declared.node.Node.{Node}
+use Rattle.ws_runner.specs.declared.node.Output.TheVariants as output
+use Rattle.ws_runner.specs.Flow.{HasGone}
+use Rattle.ws_runner.specs.Node.{lost_by, lying, nothing_yet, parts}
+use Rattle.ws_runner.specs.Past.{Driven}
+
+-- Of none of its links an end has failed or the pipe has an error; no call of its input or output has failed, and neither the limit of the run nor
+-- its abort was reached; and memory wasn't wanting
+pub record IsSoundNode (n : Node) : Type 0 where
+  pub links : (k : ℕ) → k ≤ length n.stages.items → IsSound (source_of k) (dest_of k) (link_of k) n.realm.slots
+  pub input : lost_by n.input ≡ nothing_yet
+  pub output_unfailed : n.output ≢ output.Failed
+  pub output_unaborted : n.output ≢ output.Aborted
+  pub going : n.stopped ≡ None
+
+-- what went out of it, and then what lies in it, through the stages that this hasn't passed, is all that its stages make of what was read
+abbrev pub EachSoundNodeIsWhole : Type 0
+EachSoundNodeIsWhole =
+    (plan : Plan) (n : Node) (old new : Moment) (read went : Told (List ℕ)) (gain : List ℕ) (out : Mark)
+    → HasGone plan n old new read went gain out → Driven n → IsSoundNode n
+    → then_told (then_told went (lying n)) (residual (machines (stages_of plan)) (parts n)) ≡ all_through (machines (stages_of plan)) read
