@@ -15,6 +15,7 @@ use Rattle.ws_steps.specs.Slots.{Slots, Stream as SeenStream, ReadableStream, By
 use Rattle.ws_steps.specs.Tee as tee
 use Rattle.ws_steps.specs.Turns.{row, performed}
 use Rattle.ws_tables.specs.View.{slots_of}
+use Rattle.ws_tables.specs.declared.prepare.TheConstants.{PLACES_FOR_EACH, PLACES_FOR_ANY}
 use Rattle.ws_tables.specs.declared.tables.Stream.{Stream}
 use Rattle.ws_tables.specs.declared.tables.Stream.TheVariants.{Readable, Bytes, Writable}
 use Rattle.ws_tables.specs.declared.tables.Tables.{Tables}
@@ -265,7 +266,7 @@ pub record IsPrepared (t : Tables) : Type 0 where
 
 -- so many places serve any list, beside those of read requests that wait
 abbrev pub base_places : Tables → ℕ
-base_places t = (t.aborts + vec_len t.tees) * 15 + 34
+base_places t = (t.aborts + vec_len t.tees) * PLACES_FOR_EACH + PLACES_FOR_ANY
 
 -- no stream and no signal waits for places, and no tee for copies
 pub record IsMade (t : Tables) : Type 0 where
