@@ -337,7 +337,7 @@ module _ (rf : ℕ) (feed : Option Feed) (p q : List ℕ → Type 0) (shape : Sh
           pushes = λ h. subst (λ (k : ℕ). ArePushed k a.stages.items) (sym event.age) (since.pushes goes);
           one = one;
           went = went-quietly a n (shows rf feed old) p q untouched.gained (going-stays a n goes)
-              (record { taken = refl; ahead = λ h. refl; input = refl; output = refl; abort = refl; stages = refl; sink = refl; most = refl; pipe = refl; pipes = refl }) rest-goes;
+              (record { taken = refl; ahead = λ h. refl; input = refl; output = refl; abort = refl; stages = refl; source = refl; sink = refl; most = refl; pipe = refl; pipes = refl }) rest-goes;
         })
 
     -- it is settled at once

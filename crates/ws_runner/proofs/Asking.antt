@@ -31,7 +31,6 @@ use Rattle.ws_runner.specs.declared.node.Input.TheVariants.{Open as InputOpen, E
 use Rattle.ws_runner.specs.declared.node.Output.{Output}
 use Rattle.ws_runner.specs.declared.node.Output.TheVariants.{Open, Finished, Failed, Aborted}
 use Rattle.ws_runner.specs.Moves.{IsYoung, Asks, Performed, Refused, Before, Wanting, IsSpent, IsDoneBy, Stops, Works, with_realm, Shown, Untouched, Settles, writes_by, Answers, takes_bytes, takes_chunk, is_readable, is_writable, had_by, DrawsNear, draws_by, draws_near, nearer, triggers, transforms_by, settles, NeedsNoRead, IsStopped, IsShut, Reads, ReadNot}
-use Rattle.ws_runner.specs.Node.{source}
 
 -- a realm that has stopped is asked nothing
 asks-stopped_by : (c : Call) (a : Node) (why : Option Why) → a.stopped ≡ why → is_some why ≡ true → Asks c a a
@@ -210,25 +209,25 @@ longer_than_none n h = grind (arith, nat_tests)
 none_is_none : (0 == 0) ≡ false → ⊥
 none_is_none h = grind (arith, nat_tests)
 
-pub takes-empty : (piece : List ℕ) (a b : Node) (t : Bool) → t ≡ (length piece == 0) → t ≡ true → Asks (Finish source) (record a { input = Ended }) b → takes_chunk piece a b
+pub takes-empty : (piece : List ℕ) (a b : Node) (t : Bool) → t ≡ (length piece == 0) → t ≡ true → Asks (Finish a.source) (record a { input = Ended }) b → takes_chunk piece a b
 takes-empty [] a b t e f h = h
 takes-empty (x ∷ xs) a b t e f h = absurd (longer_than_none (length xs) (sym e ∙ f))
 
 pub takes-long : (piece : List ℕ) (n : ℕ) (a b : Node) (t : Bool) → t ≡ (length piece == 0) → t ≡ false → n ≡ length piece → a.most < a.taken + n
-    → Asks (Fail source (FaultReason TooMuch)) (record a { taken = a.taken + n; ahead = n; input = TooLong }) b → takes_chunk piece a b
+    → Asks (Fail a.source (FaultReason TooMuch)) (record a { taken = a.taken + n; ahead = n; input = TooLong }) b → takes_chunk piece a b
 takes-long [] n a b t e f m more h = absurd (none_is_none (sym e ∙ f))
 takes-long (x ∷ xs) n a b t e f m more h =
     let longer : nat_lt a.most (a.taken + length (x ∷ xs)) ≡ true = grind (arith, nat_tests) in
     subst (takes_bytes (x ∷ xs) a b) (sym longer)
-    (subst (λ (k : ℕ). Asks (Fail source (FaultReason TooMuch)) (record a { taken = a.taken + k; ahead = k; input = TooLong }) b) m h)
+    (subst (λ (k : ℕ). Asks (Fail a.source (FaultReason TooMuch)) (record a { taken = a.taken + k; ahead = k; input = TooLong }) b) m h)
 
 pub takes-some : (piece : List ℕ) (n : ℕ) (a b : Node) (t : Bool) → t ≡ (length piece == 0) → t ≡ false → n ≡ length piece → a.taken + n ≤ a.most
-    → Asks (Enqueue source (Bytes piece)) (record a { taken = a.taken + n; ahead = n }) b → takes_chunk piece a b
+    → Asks (Enqueue a.source (Bytes piece)) (record a { taken = a.taken + n; ahead = n }) b → takes_chunk piece a b
 takes-some [] n a b t e f m less h = absurd (none_is_none (sym e ∙ f))
 takes-some (x ∷ xs) n a b t e f m less h =
     let within : nat_lt a.most (a.taken + length (x ∷ xs)) ≡ false = grind (arith, nat_tests) in
     subst (takes_bytes (x ∷ xs) a b) (sym within)
-    (subst (λ (k : ℕ). Asks (Enqueue source (Bytes (x ∷ xs))) (record a { taken = a.taken + k; ahead = k }) b) m h)
+    (subst (λ (k : ℕ). Asks (Enqueue a.source (Bytes (x ∷ xs))) (record a { taken = a.taken + k; ahead = k }) b) m h)
 
 -- where a job was performed, one was queued
 pub job-performed : (idle : Bool) (z s t : Slots) → z ≡ (if idle then s else t) → true ≡ not idle → z ≡ t

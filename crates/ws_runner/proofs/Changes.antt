@@ -44,7 +44,7 @@ led-ahead shape past n k less s =
     let c : Node = record n { ahead = k } in
     let counts = s.counts in
     record {
-      is_of = record { fit = s.is_of.fit; from = s.is_of.from; into = s.is_of.into; stages = s.is_of.stages; sink = s.is_of.sink; most = s.is_of.most; signal = s.is_of.signal };
+      is_of = record { fit = s.is_of.fit; from = s.is_of.from; into = s.is_of.into; stages = s.is_of.stages; source = s.is_of.source; sink = s.is_of.sink; most = s.is_of.most; signal = s.is_of.signal };
       ran = s.ran;
       piped = s.piped;
       failed = all-causes n c (failures past) same s.failed;
@@ -76,7 +76,7 @@ pub led-output : (shape : Shape) (past : List Entry) (n : Node) (o : Output) →
     → Led shape past (record n { output = o })
 led-output shape past n o stays reached s =
     record {
-      is_of = record { fit = s.is_of.fit; from = s.is_of.from; into = s.is_of.into; stages = s.is_of.stages; sink = s.is_of.sink; most = s.is_of.most; signal = s.is_of.signal };
+      is_of = record { fit = s.is_of.fit; from = s.is_of.from; into = s.is_of.into; stages = s.is_of.stages; source = s.is_of.source; sink = s.is_of.sink; most = s.is_of.most; signal = s.is_of.signal };
       ran = s.ran;
       piped = s.piped;
       failed = all-causes n (record n { output = o }) (failures past) same s.failed;
@@ -100,7 +100,7 @@ pub led-abort : (shape : Shape) (past : List Entry) (n : Node) (x : Option Abort
     → (is_reached n.abort ≡ true → is_reached x ≡ true) → Led shape past n → Led shape past (record n { abort = x })
 led-abort shape past n x same_signal reached s =
     record {
-      is_of = record { fit = s.is_of.fit; from = s.is_of.from; into = s.is_of.into; stages = s.is_of.stages; sink = s.is_of.sink; most = s.is_of.most; signal = same_signal ∙ s.is_of.signal };
+      is_of = record { fit = s.is_of.fit; from = s.is_of.from; into = s.is_of.into; stages = s.is_of.stages; source = s.is_of.source; sink = s.is_of.sink; most = s.is_of.most; signal = same_signal ∙ s.is_of.signal };
       ran = s.ran;
       piped = s.piped;
       failed = all-causes n (record n { abort = x }) (failures past) same s.failed;
@@ -123,7 +123,7 @@ led-abort shape past n x same_signal reached s =
 pub led-asked : (shape : Shape) (past : List Entry) (n : Node) (id : HostId) → IsPull past (Some id) → Led shape past n → Led shape past (record n { asked = Some id })
 led-asked shape past n id pull s =
     record {
-      is_of = record { fit = s.is_of.fit; from = s.is_of.from; into = s.is_of.into; stages = s.is_of.stages; sink = s.is_of.sink; most = s.is_of.most; signal = s.is_of.signal };
+      is_of = record { fit = s.is_of.fit; from = s.is_of.from; into = s.is_of.into; stages = s.is_of.stages; source = s.is_of.source; sink = s.is_of.sink; most = s.is_of.most; signal = s.is_of.signal };
       ran = s.ran;
       piped = s.piped;
       failed = all-causes n (record n { asked = Some id }) (failures past) same s.failed;
@@ -147,7 +147,7 @@ led-asked shape past n id pull s =
 pub led-unasked : (shape : Shape) (past : List Entry) (n : Node) → Led shape past n → Led shape past (record n { asked = None })
 led-unasked shape past n s =
     record {
-      is_of = record { fit = s.is_of.fit; from = s.is_of.from; into = s.is_of.into; stages = s.is_of.stages; sink = s.is_of.sink; most = s.is_of.most; signal = s.is_of.signal };
+      is_of = record { fit = s.is_of.fit; from = s.is_of.from; into = s.is_of.into; stages = s.is_of.stages; source = s.is_of.source; sink = s.is_of.sink; most = s.is_of.most; signal = s.is_of.signal };
       ran = s.ran;
       piped = s.piped;
       failed = all-causes n (record n { asked = None }) (failures past) same s.failed;
@@ -175,7 +175,7 @@ pub led-input : (shape : Shape) (past : List Entry) (n : Node) (taken ahead : �
     → Led shape past (answering taken ahead i n)
 led-input shape past n taken ahead i was_open counts s =
     record {
-      is_of = record { fit = s.is_of.fit; from = s.is_of.from; into = s.is_of.into; stages = s.is_of.stages; sink = s.is_of.sink; most = s.is_of.most; signal = s.is_of.signal };
+      is_of = record { fit = s.is_of.fit; from = s.is_of.from; into = s.is_of.into; stages = s.is_of.stages; source = s.is_of.source; sink = s.is_of.sink; most = s.is_of.most; signal = s.is_of.signal };
       ran = s.ran;
       piped = s.piped;
       failed = all-causes n (answering taken ahead i n) (failures past) same s.failed;
@@ -251,7 +251,7 @@ led-stages shape past n c before after w v whole live same_stage has s = subst (
 
   led : Led shape past (record n { stages = c.stages })
   led = record {
-    is_of = record { fit = s.is_of.fit; from = s.is_of.from; into = s.is_of.into; stages = kept ∙ s.is_of.stages; sink = s.is_of.sink; most = s.is_of.most; signal = s.is_of.signal };
+    is_of = record { fit = s.is_of.fit; from = s.is_of.from; into = s.is_of.into; stages = kept ∙ s.is_of.stages; source = s.is_of.source; sink = s.is_of.sink; most = s.is_of.most; signal = s.is_of.signal };
     ran = s.ran;
     piped = s.piped;
     failed = all-causes n (record n { stages = c.stages }) (failures past) same s.failed;
@@ -267,7 +267,7 @@ led-stages shape past n c before after w v whole live same_stage has s = subst (
 pub led-stopped : (shape : Shape) (past : List Entry) (n : Node) (why : Why) → (why ≡ Spent → n.realm.slots.age ≡ oldest) → Led shape past n → Led shape past (stopped_by why n)
 led-stopped shape past n why spent s =
     record {
-      is_of = record { fit = s.is_of.fit; from = s.is_of.from; into = s.is_of.into; stages = s.is_of.stages; sink = s.is_of.sink; most = s.is_of.most; signal = s.is_of.signal };
+      is_of = record { fit = s.is_of.fit; from = s.is_of.from; into = s.is_of.into; stages = s.is_of.stages; source = s.is_of.source; sink = s.is_of.sink; most = s.is_of.most; signal = s.is_of.signal };
       ran = s.ran;
       piped = s.piped;
       failed = all-causes n (stopped_by why n) (failures past) same s.failed;

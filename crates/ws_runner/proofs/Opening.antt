@@ -273,6 +273,7 @@ module _ (plan : Plan) (n : Node) (is_accepted : IsAccepted plan) (f : IsFresh p
   is-of = record {
     accepted = is_accepted;
     stages = ap (λ (ws : List State). map (λ (w : State). w.stage) ws) f.stages ∙ stages-begun ss;
+    source = f.source;
     sink = f.sink;
     most = f.most;
     signal = ap (λ (x : Option Abort). option_map (λ (a : Abort). a.signal) x) f.abort ∙ signal-is plan.abort_after;
@@ -307,6 +308,7 @@ module _ (plan : Plan) (n : Node) (is_accepted : IsAccepted plan) (f : IsFresh p
     from = refl;
     into = refl;
     stages = is-of.stages;
+    source = is-of.source;
     sink = is-of.sink;
     most = is-of.most;
     signal = is-of.signal;

@@ -112,7 +112,7 @@ module _ (shape : Shape) (past : List Entry) (a : Node) (realm : SeenRealm) (id 
         led = event.led;
         pushes = λ h. subst (λ (n : ℕ). ArePushed n a.stages.items) (sym event.age) (since.pushes goes);
         one = one;
-        went = went-quietly a was m p q gained (going-stays a was goes) (record { taken = refl; ahead = λ h. refl; input = refl; output = refl; abort = refl; stages = refl; sink = refl; most = refl; pipe = refl; pipes = refl }) on;
+        went = went-quietly a was m p q gained (going-stays a was goes) (record { taken = refl; ahead = λ h. refl; input = refl; output = refl; abort = refl; stages = refl; source = refl; sink = refl; most = refl; pipe = refl; pipes = refl }) on;
       }
 
   -- an event at a stage
@@ -179,6 +179,7 @@ module _ (shape : Shape) (past : List Entry) (a : Node) (realm : SeenRealm) (id 
               output = ap (λ (n : Node). n.output) b-is;
               abort = ap (λ (n : Node). n.abort) b-is;
               stages = ap stages b-items ∙ (stages-at before after v ∙ (ap (λ s. stages before ++ s ∷ stages after) stage ∙ (sym (stages-at before after w) ∙ ap stages (sym at.whole))));
+              source = ap (λ (n : Node). n.source) b-is;
               sink = ap (λ (n : Node). n.sink) b-is;
               most = ap (λ (n : Node). n.most) b-is;
               pipe = ap (λ (n : Node). n.pipe) b-is;

@@ -31,7 +31,7 @@ use Rattle.ws_steps.specs.declared.calls.HostCall.TheVariants.{Pull}
 use Rattle.ws_steps.specs.Run.{Entry}
 use Rattle.ws_host_laws.specs.HostCalls.{called, settles_well}
 use Rattle.ws_link_laws.specs.Link.{lets_in, silence}
-use Rattle.ws_chain_laws.specs.Chain.{Origin, FromBytes, giver, behind_at}
+use Rattle.ws_chain_laws.specs.Chain.{Origin, FromBytes, giver, source_of, behind_at}
 use Rattle.ws_chain_laws.specs.Nodes.{finishes, only_at}
 use Rattle.ws_chain_laws.proofs.Nodes.{each_nodes_call_brings}
 use Rattle.ws_realm.specs.declared.realm.Why.{Why}
@@ -43,7 +43,7 @@ use Rattle.ws_runner.specs.declared.node.Output.{Output}
 use Rattle.ws_runner.specs.declared.node.Output.TheVariants as output
 use Rattle.ws_runner.specs.Host.{GivesPiece, IsPiece}
 use Rattle.ws_runner.specs.Moves.{Asks, Performed, Refused, settles, takes_bytes, Takes, Reads, ReadNot, Wanted, ReadOnce}
-use Rattle.ws_runner.specs.Node.{source, in_bytes, lost_by, coming, coming_behind, lying_by, lies, lies_in, lying, nothing_yet, parts, stages_in, works_in}
+use Rattle.ws_runner.specs.Node.{in_bytes, lost_by, coming, coming_behind, lying_by, lies, lies_in, lying, nothing_yet, parts, stages_in, works_in}
 use Rattle.ws_runner.specs.Past.{IsCause, IsPull, Counts, ArePushed, OneAtMost, may_have, Led, Since}
 use Rattle.ws_runner.specs.Went.{InputGoes, OutputGoes, AbortGoes}
 use Rattle.ws_runner.proofs.Changes.{answering, led-input, led-unasked, led-stopped}
@@ -148,14 +148,18 @@ both shape past n mid b c id i pull led may asks settles_it =
           omega arith;
     }
 
--- what a read brings to its link: the end of the input, or bytes
+-- what a read brings to the link that comes from the source: the end of the input, or bytes
 
-finish-at : (shape : Shape) → shape.origin ≡ FromBytes → (k : ℕ) → enters_in shape k (Finish source) ≡ only_at 0 (told [] Closed) k
-finish-at shape from k = (each_nodes_call_brings shape.origin k).finish ∙ ap (λ (o : Origin). only_at 0 (finishes o) k) from
+finish-at : (shape : Shape) (i : StreamId) → shape.origin ≡ FromBytes → i ≡ source_of 0 → (k : ℕ) → enters_in shape k (Finish i) ≡ only_at 0 (told [] Closed) k
+finish-at shape i from is k =
+    subst (λ (j : StreamId). enters_in shape k (Finish j) ≡ only_at 0 (told [] Closed) k) (sym is)
+    ((each_nodes_call_brings shape.origin k).finish ∙ ap (λ (o : Origin). only_at 0 (finishes o) k) from)
 
-bytes-at : (shape : Shape) → shape.origin ≡ FromBytes → (x : ℕ) (rest : List ℕ) (k : ℕ) → enters_in shape k (Enqueue source (Bytes (x ∷ rest))) ≡ only_at 0 (told (Bytes (x ∷ rest) ∷ []) MayCome) k
-bytes-at shape from x rest k =
-    (each_nodes_call_brings shape.origin k).enqueue 0 (Bytes (x ∷ rest)) ∙ ap (λ (o : Origin). only_at 0 (lets_in (giver o 0) (Bytes (x ∷ rest))) k) from
+bytes-at : (shape : Shape) (i : StreamId) → shape.origin ≡ FromBytes → i ≡ source_of 0 → (x : ℕ) (rest : List ℕ) (k : ℕ)
+    → enters_in shape k (Enqueue i (Bytes (x ∷ rest))) ≡ only_at 0 (told (Bytes (x ∷ rest) ∷ []) MayCome) k
+bytes-at shape i from is x rest k =
+    subst (λ (j : StreamId). enters_in shape k (Enqueue j (Bytes (x ∷ rest))) ≡ only_at 0 (told (Bytes (x ∷ rest) ∷ []) MayCome) k) (sym is)
+    ((each_nodes_call_brings shape.origin k).enqueue 0 (Bytes (x ∷ rest)) ∙ ap (λ (o : Origin). only_at 0 (lets_in (giver o 0) (Bytes (x ∷ rest))) k) from)
 
 -- what a read is to the node
 
@@ -270,6 +274,7 @@ module _ (wf : ℕ) (finished : Option Bool) (p : List ℕ → Type 0) (shape : 
               short = short;
               counted = taken_is ∙ counted;
               input = subst (λ q. InputGoes a.input q read m₀ m₁) (sym input_is) goes_in;
+              source = same.source;
               most = same.most;
             };
             into = record {
@@ -285,24 +290,24 @@ module _ (wf : ℕ) (finished : Option Bool) (p : List ℕ → Type 0) (shape : 
         }
 
     -- the end of the input
-    ended : (c : Node) → IsPiece old new before now want [] → Asks (Finish source) (answering a.taken a.ahead input.Ended a) c → Asks (settles id) c b → Handled shape a b m₀ m₁ p p
+    ended : (c : Node) → IsPiece old new before now want [] → Asks (Finish a.source) (answering a.taken a.ahead input.Ended a) c → Asks (settles id) c b → Handled shape a b m₀ m₁ p p
     ended c piece asks settles_it =
         let counts = s.led.counts in
         let limited = counts.limited in
         let bound = counts.bound in
         let room = counts.piece in
         let fewer = few in
-        took a.taken a.ahead input.Ended (Finish source) c (told [] Closed)
+        took a.taken a.ahead input.Ended (Finish a.source) c (told [] Closed)
         (record { limited = omega arith; bound = omega arith; within = λ e. fewer; beyond = λ e. absurd (cc); piece = omega arith; failed = λ e. absurd (cc) })
-        (record { is_own = (0, omega arith, refl); failed = All-nil (IsCause (answering a.taken a.ahead input.Ended a)); closes = λ i e. absurd (cc); flushes = λ i j e. absurd (cc) })
-        asks settles_it (λ j. finish-at shape s.led.is_of.from (suc j) ∙ not-first (told [] Closed) j)
-        (subst (λ (t : Told Value). IsShortOf (then_told (in_bytes t) (lost_by input.Ended)) (told [] Closed)) (sym (finish-at shape s.led.is_of.from 0)) (refl, refl))
-        (λ e. subst (λ q. OneAtMost a.ahead (then_told (behind_at 0 a.realm.slots) q).items) (sym (finish-at shape s.led.is_of.from 0)) (one-closes a.ahead (behind_at 0 a.realm.slots) Closed e))
+        (record { is_own = (0, omega arith, s.led.is_of.source); failed = All-nil (IsCause (answering a.taken a.ahead input.Ended a)); closes = λ i e. absurd (cc); flushes = λ i j e. absurd (cc) })
+        asks settles_it (λ j. finish-at shape a.source s.led.is_of.from s.led.is_of.source (suc j) ∙ not-first (told [] Closed) j)
+        (subst (λ (t : Told Value). IsShortOf (then_told (in_bytes t) (lost_by input.Ended)) (told [] Closed)) (sym (finish-at shape a.source s.led.is_of.from s.led.is_of.source 0)) (refl, refl))
+        (λ e. subst (λ q. OneAtMost a.ahead (then_told (behind_at 0 a.realm.slots) q).items) (sym (finish-at shape a.source s.led.is_of.from s.led.is_of.source 0)) (one-closes a.ahead (behind_at 0 a.realm.slots) Closed e))
         piece.moved (All-nil (λ c. length c ≤ 4096)) (omega arith) (omega arith)
         (rw was_open (refl, piece.calm, (piece.end refl).1, IsEmpty-kept old new [] (piece.end refl).0 piece.moved))
 
     -- a failed read
-    failed : (c : Node) → Fed old new [] → KeepsEnd old new → Rose before now → Asks (Fail source (FaultReason ReadFault)) (answering a.taken a.ahead input.Failed a) c → Asks (settles id) c b
+    failed : (c : Node) → Fed old new [] → KeepsEnd old new → Rose before now → Asks (Fail a.source (FaultReason ReadFault)) (answering a.taken a.ahead input.Failed a) c → Asks (settles id) c b
         → Handled shape a b m₀ m₁ p p
     failed c fed kept rose asks settles_it =
         let counts = s.led.counts in
@@ -311,12 +316,12 @@ module _ (wf : ℕ) (finished : Option Bool) (p : List ℕ → Type 0) (shape : 
         let room = counts.piece in
         let fewer = few in
         let n : Node = answering a.taken a.ahead input.Failed a in
-        took a.taken a.ahead input.Failed (Fail source (FaultReason ReadFault)) c (told [] Lost)
+        took a.taken a.ahead input.Failed (Fail a.source (FaultReason ReadFault)) c (told [] Lost)
         (record { limited = omega arith; bound = omega arith; within = λ e. fewer; beyond = λ e. absurd (cc); piece = omega arith; failed = λ e. written })
-        (record { is_own = (0, omega arith, refl); failed = All-cons (IsCause n) (FaultReason ReadFault) [] refl (All-nil (IsCause n)); closes = λ i e. absurd (cc); flushes = λ i j e. absurd (cc) })
-        asks settles_it (λ j. (each_nodes_call_brings shape.origin (suc j)).fail source (FaultReason ReadFault))
-        (subst (λ (t : Told Value). IsShortOf (then_told (in_bytes t) (lost_by input.Failed)) (told [] Lost)) (sym ((each_nodes_call_brings shape.origin 0).fail source (FaultReason ReadFault))) ([], refl))
-        (λ e. subst (λ q. OneAtMost a.ahead (then_told (behind_at 0 a.realm.slots) q).items) (sym ((each_nodes_call_brings shape.origin 0).fail source (FaultReason ReadFault)))
+        (record { is_own = (0, omega arith, s.led.is_of.source); failed = All-cons (IsCause n) (FaultReason ReadFault) [] refl (All-nil (IsCause n)); closes = λ i e. absurd (cc); flushes = λ i j e. absurd (cc) })
+        asks settles_it (λ j. (each_nodes_call_brings shape.origin (suc j)).fail a.source (FaultReason ReadFault))
+        (subst (λ (t : Told Value). IsShortOf (then_told (in_bytes t) (lost_by input.Failed)) (told [] Lost)) (sym ((each_nodes_call_brings shape.origin 0).fail a.source (FaultReason ReadFault))) ([], refl))
+        (λ e. subst (λ q. OneAtMost a.ahead (then_told (behind_at 0 a.realm.slots) q).items) (sym ((each_nodes_call_brings shape.origin 0).fail a.source (FaultReason ReadFault)))
         (one-closes a.ahead (behind_at 0 a.realm.slots) MayCome e))
         fed (All-nil (λ c. length c ≤ 4096)) (omega arith) (omega arith) (rw was_open (refl, rose, kept))
 
@@ -334,7 +339,7 @@ module _ (wf : ℕ) (finished : Option Bool) (p : List ℕ → Type 0) (shape : 
       one_short : All (λ c. length c ≤ 4096) ((x ∷ rest) ∷ [])
       one_short = All-cons (λ c. length c ≤ 4096) (x ∷ rest) [] (let long = piece.short in omega arith) (All-nil (λ c. length c ≤ 4096))
 
-      too_many : (c : Node) → a.most < a.taken + length (x ∷ rest) → Asks (Fail source (FaultReason TooMuch)) (answering (a.taken + length (x ∷ rest)) (length (x ∷ rest)) input.TooLong a) c
+      too_many : (c : Node) → a.most < a.taken + length (x ∷ rest) → Asks (Fail a.source (FaultReason TooMuch)) (answering (a.taken + length (x ∷ rest)) (length (x ∷ rest)) input.TooLong a) c
           → Asks (settles id) c b → Handled shape a b m₀ m₁ p p
       too_many c more asks settles_it =
           let counts = s.led.counts in
@@ -343,30 +348,30 @@ module _ (wf : ℕ) (finished : Option Bool) (p : List ℕ → Type 0) (shape : 
           let fewer = few in
           let counted = count in
           let n : Node = answering (a.taken + length (x ∷ rest)) (length (x ∷ rest)) input.TooLong a in
-          took (a.taken + length (x ∷ rest)) (length (x ∷ rest)) input.TooLong (Fail source (FaultReason TooMuch)) c (told ((x ∷ rest) ∷ []) Lost)
+          took (a.taken + length (x ∷ rest)) (length (x ∷ rest)) input.TooLong (Fail a.source (FaultReason TooMuch)) c (told ((x ∷ rest) ∷ []) Lost)
           (record { limited = omega arith; bound = omega arith; within = λ e. absurd (e refl); beyond = λ e. more; piece = omega arith; failed = λ e. absurd (cc) })
-          (record { is_own = (0, omega arith, refl); failed = All-cons (IsCause n) (FaultReason TooMuch) [] refl (All-nil (IsCause n)); closes = λ i e. absurd (cc); flushes = λ i j e. absurd (cc) })
-          asks settles_it (λ j. (each_nodes_call_brings shape.origin (suc j)).fail source (FaultReason TooMuch))
-          (subst (λ (t : Told Value). IsShortOf (then_told (in_bytes t) (lost_by input.TooLong)) (told ((x ∷ rest) ∷ []) Lost)) (sym ((each_nodes_call_brings shape.origin 0).fail source (FaultReason TooMuch)))
+          (record { is_own = (0, omega arith, s.led.is_of.source); failed = All-cons (IsCause n) (FaultReason TooMuch) [] refl (All-nil (IsCause n)); closes = λ i e. absurd (cc); flushes = λ i j e. absurd (cc) })
+          asks settles_it (λ j. (each_nodes_call_brings shape.origin (suc j)).fail a.source (FaultReason TooMuch))
+          (subst (λ (t : Told Value). IsShortOf (then_told (in_bytes t) (lost_by input.TooLong)) (told ((x ∷ rest) ∷ []) Lost)) (sym ((each_nodes_call_brings shape.origin 0).fail a.source (FaultReason TooMuch)))
           ((x ∷ rest) ∷ [], refl))
-          (λ e. subst (λ q. OneAtMost (length (x ∷ rest)) (then_told (behind_at 0 a.realm.slots) q).items) (sym ((each_nodes_call_brings shape.origin 0).fail source (FaultReason TooMuch)))
+          (λ e. subst (λ q. OneAtMost (length (x ∷ rest)) (then_told (behind_at 0 a.realm.slots) q).items) (sym ((each_nodes_call_brings shape.origin 0).fail a.source (FaultReason TooMuch)))
           (one-closes (length (x ∷ rest)) (behind_at 0 a.realm.slots) MayCome e))
           fed_all one_short (omega arith) (omega arith) (rw was_open (refl, piece.calm, piece.before_end (omega arith)))
 
-      some : (c : Node) → a.taken + length (x ∷ rest) ≤ a.most → Asks (Enqueue source (Bytes (x ∷ rest))) (answering (a.taken + length (x ∷ rest)) (length (x ∷ rest)) a.input a) c
+      some : (c : Node) → a.taken + length (x ∷ rest) ≤ a.most → Asks (Enqueue a.source (Bytes (x ∷ rest))) (answering (a.taken + length (x ∷ rest)) (length (x ∷ rest)) a.input a) c
           → Asks (settles id) c b → Handled shape a b m₀ m₁ p p
       some c within asks settles_it =
           let counts = s.led.counts in
           let limited = counts.limited in
           let short = piece.short in
           let counted = count in
-          took (a.taken + length (x ∷ rest)) (length (x ∷ rest)) a.input (Enqueue source (Bytes (x ∷ rest))) c (told ((x ∷ rest) ∷ []) MayCome)
+          took (a.taken + length (x ∷ rest)) (length (x ∷ rest)) a.input (Enqueue a.source (Bytes (x ∷ rest))) c (told ((x ∷ rest) ∷ []) MayCome)
           (record { limited = omega arith; bound = omega arith; within = λ e. within; beyond = λ e. let f = was_open in absurd (cc); piece = omega arith; failed = λ e. let f = was_open in absurd (cc) })
           (record { is_own = tt; failed = All-nil (IsCause (answering (a.taken + length (x ∷ rest)) (length (x ∷ rest)) a.input a)); closes = λ i e. absurd (cc); flushes = λ i j e. absurd (cc) })
-          asks settles_it (λ j. bytes-at shape s.led.is_of.from x rest (suc j) ∙ not-first (told (Bytes (x ∷ rest) ∷ []) MayCome) j)
-          (subst (λ (i : Input). IsShortOf (then_told (in_bytes (enters_in shape 0 (Enqueue source (Bytes (x ∷ rest))))) (lost_by i)) (told ((x ∷ rest) ∷ []) MayCome)) (sym was_open)
-          (subst (λ (t : Told Value). IsShortOf (then_told (in_bytes t) nothing_yet) (told ((x ∷ rest) ∷ []) MayCome)) (sym (bytes-at shape s.led.is_of.from x rest 0)) (refl, refl)))
-          (λ e. subst (λ q. OneAtMost (length (x ∷ rest)) (then_told (behind_at 0 a.realm.slots) q).items) (sym (bytes-at shape s.led.is_of.from x rest 0))
+          asks settles_it (λ j. bytes-at shape a.source s.led.is_of.from s.led.is_of.source x rest (suc j) ∙ not-first (told (Bytes (x ∷ rest) ∷ []) MayCome) j)
+          (subst (λ (i : Input). IsShortOf (then_told (in_bytes (enters_in shape 0 (Enqueue a.source (Bytes (x ∷ rest))))) (lost_by i)) (told ((x ∷ rest) ∷ []) MayCome)) (sym was_open)
+          (subst (λ (t : Told Value). IsShortOf (then_told (in_bytes t) nothing_yet) (told ((x ∷ rest) ∷ []) MayCome)) (sym (bytes-at shape a.source s.led.is_of.from s.led.is_of.source x rest 0)) (refl, refl)))
+          (λ e. subst (λ q. OneAtMost (length (x ∷ rest)) (then_told (behind_at 0 a.realm.slots) q).items) (sym (bytes-at shape a.source s.led.is_of.from s.led.is_of.source x rest 0))
           (one-comes (length (x ∷ rest)) (x ∷ rest) (behind_at 0 a.realm.slots) e refl (omega arith)))
           fed_all one_short (omega arith) (omega arith)
           (subst (λ (i : Input). InputGoes i i (told ((x ∷ rest) ∷ []) MayCome) m₀ m₁) (sym was_open) (refl, piece.calm, piece.before_end (omega arith)))
@@ -393,7 +398,7 @@ wanted shape past a m p s goes =
       pushes = λ e. absurd (cc);
       one = s.one;
       went = went-quietly a b m p p (Gains-nothing p) (going-stays a b goes)
-          (record { taken = refl; ahead = λ e. refl; input = refl; output = refl; abort = refl; stages = refl; sink = refl; most = refl; pipe = refl; pipes = refl })
+          (record { taken = refl; ahead = λ e. refl; input = refl; output = refl; abort = refl; stages = refl; source = refl; sink = refl; most = refl; pipe = refl; pipes = refl })
           (goes_rests (machines (stages_in a)) 0 (works_in a) (lies_in a) (lies_in b) (as-many a) (λ j h k. ((lies_in a j).items, refl)));
     }
 

@@ -80,7 +80,7 @@ led-as : (shape : Shape) (past ys : List Entry) (n : Node) (realm : SeenRealm) (
     → realm.slots.age ≤ oldest → (stopped ≡ Some Spent → realm.slots.age ≡ oldest) → Led shape ys (record n { realm = realm; stopped = stopped })
 led-as shape past ys n realm stopped s ran piped failed closes flushes asked young spent =
     record {
-      is_of = record { fit = s.is_of.fit; from = s.is_of.from; into = s.is_of.into; stages = s.is_of.stages; sink = s.is_of.sink; most = s.is_of.most; signal = s.is_of.signal };
+      is_of = record { fit = s.is_of.fit; from = s.is_of.from; into = s.is_of.into; stages = s.is_of.stages; source = s.is_of.source; sink = s.is_of.sink; most = s.is_of.most; signal = s.is_of.signal };
       ran = ran;
       piped = piped;
       failed = All-weaker (IsCause n) (IsCause (record n { realm = realm; stopped = stopped })) (cause-stays n realm stopped) (failures ys) failed;

@@ -239,6 +239,7 @@ module _ (shape : Shape) (past : List Entry) (a : Node) (realm : SeenRealm) (sin
                   short = All-nil (λ c. length c ≤ 4096);
                   counted = omega arith;
                   input = subst (λ (i : Input). InputGoes a.input i nothing_yet (shows rf feed old) (shows rf feed new)) (sym i_is) (input-calm a.input rf feed old new);
+                  source = ap (λ (n : Node). n.source) b-is;
                   most = ap (λ (n : Node). n.most) b-is;
                 };
                 into = record {

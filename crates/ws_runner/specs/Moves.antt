@@ -40,7 +40,7 @@ use Rattle.ws_runner.specs.declared.node.Output.{Output}
 use Rattle.ws_runner.specs.declared.node.Output.TheVariants.{Open, Finished, Failed as OutputFailed, Aborted}
 use Rattle.ws_runner.specs.Host.{GivesPiece}
 use Rattle.ws_chain_laws.specs.Chain.{source_of}
-use Rattle.ws_runner.specs.Node.{source, stage_of, is_reached}
+use Rattle.ws_runner.specs.Node.{stage_of, is_reached}
 
 -- a node whose realm is so
 abbrev pub with_realm : SeenRealm → Node → Node
@@ -88,17 +88,17 @@ abbrev pub with_piece : List ℕ → Input → Node → Node
 with_piece piece input n = record n { taken = n.taken + length piece; ahead = length piece; input = input }
 
 abbrev pub takes_bytes : List ℕ → Node → Node → Bool → Type 0
-takes_bytes piece a b true = Asks (Fail source (FaultReason TooMuch)) (with_piece piece TooLong a) b
-takes_bytes piece a b false = Asks (Enqueue source (Bytes piece)) (with_piece piece a.input a) b
+takes_bytes piece a b true = Asks (Fail a.source (FaultReason TooMuch)) (with_piece piece TooLong a) b
+takes_bytes piece a b false = Asks (Enqueue a.source (Bytes piece)) (with_piece piece a.input a) b
 
 abbrev pub takes_chunk : List ℕ → Node → Node → Type 0
-takes_chunk [] a b = Asks (Finish source) (record a { input = Ended }) b
+takes_chunk [] a b = Asks (Finish a.source) (record a { input = Ended }) b
 takes_chunk (x ∷ xs) a b = takes_bytes (x ∷ xs) a b (nat_lt a.most (a.taken + length (x ∷ xs)))
 
 -- what a read gave is handed to the source: an end, bytes, or a failure
 abbrev pub Takes : Result (List ℕ) Failed → Node → Node → Type 0
 Takes (Ok piece) a b = takes_chunk piece a b
-Takes (Err failed) a b = Asks (Fail source (FaultReason Read)) (record a { input = InputFailed }) b
+Takes (Err failed) a b = Asks (Fail a.source (FaultReason Read)) (record a { input = InputFailed }) b
 
 -- what the output shows at one moment
 pub record Shown : Type 0 where

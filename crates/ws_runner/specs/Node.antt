@@ -15,7 +15,7 @@ use Rattle.ws_steps.specs.Promises.{is_pending}
 use Rattle.ws_steps.specs.Queues.{is_empty}
 use Rattle.ws_steps.specs.Run.{is_idle}
 use Rattle.ws_steps.specs.Slots.{Slots}
-use Rattle.ws_chain_laws.specs.Chain.{source_of, behind_at}
+use Rattle.ws_chain_laws.specs.Chain.{behind_at}
 use Rattle.ws_realm.specs.Seen.{outcome_named}
 use Rattle.ws_realm.specs.declared.realm.Why.{Why}
 use Rattle.ws_runner.specs.declared.node.Abort.{Abort}
@@ -25,10 +25,6 @@ use Rattle.ws_runner.specs.declared.node.Node.{Node}
 
 -- The streams are those of a chain: link k goes from stream 2k to stream 2k + 1. Link 0 comes from the source, the last link goes to the sink, and from
 -- link k the stage of number k, from 0, takes its chunks, which puts out into link k + 1
-
--- the stream that the input feeds
-abbrev pub source : StreamId
-source = source_of 0
 
 -- the number of the stage, from 1, whose transform stream has this readable half
 abbrev pub stage_of : StreamId → ℕ

@@ -21,7 +21,7 @@ use Rattle.ws_steps.specs.declared.calls.HostCall.TheVariants.{Pull, Close, Flus
 use Rattle.ws_steps.specs.Run.{Entry, Called, run}
 use Rattle.ws_steps.specs.Slots.{empty}
 use Rattle.ws_host_laws.specs.HostCalls.{called, settles_well}
-use Rattle.ws_chain_laws.specs.Chain.{FromBytes, ToSink, dest_of, behind_at}
+use Rattle.ws_chain_laws.specs.Chain.{FromBytes, ToSink, source_of, dest_of, behind_at}
 use Rattle.ws_chain_laws.specs.Opening.{signal_of}
 use Rattle.ws_realm.specs.Seen.{oldest}
 use Rattle.ws_realm.specs.declared.realm.Why.TheVariants.{Spent}
@@ -117,6 +117,7 @@ ArePushed age stages = All (λ w. w.pushes < age) stages
 pub record IsOf (plan : Plan) (n : Node) : Type 0 where
   pub accepted : IsAccepted plan
   pub stages : stages_in n ≡ stages_of plan
+  pub source : n.source ≡ source_of 0
   pub sink : n.sink ≡ dest_of (count_of plan)
   pub most : n.most ≡ nat_abs plan.max_input
   pub signal : option_map (λ a. a.signal) n.abort ≡ signal_of (is_aborted plan)
@@ -131,6 +132,7 @@ pub record IsShaped (shape : Shape) (n : Node) : Type 0 where
   pub from : shape.origin ≡ FromBytes
   pub into : shape.target ≡ ToSink
   pub stages : stages_in n ≡ shape.stages
+  pub source : n.source ≡ source_of 0
   pub sink : n.sink ≡ dest_of (count_in shape)
   pub most : n.most ≡ shape.most
   pub signal : option_map (λ a. a.signal) n.abort ≡ signal_of shape.aborted
@@ -197,6 +199,7 @@ pub record IsNew (plan : Plan) (n : Node) : Type 0 where
 pub record IsFresh (plan : Plan) (n : Node) : Type 0 where
   pub slots : n.realm.slots ≡ run (opening_by plan) empty
   pub stages : n.stages.items ≡ all_begun (stages_of plan)
+  pub source : n.source ≡ source_of 0
   pub sink : n.sink ≡ dest_of (count_of plan)
   pub answered : IsAnswered plan n.pipe
   pub before_answered : AreAnsweredOf plan n.pipes_before.items

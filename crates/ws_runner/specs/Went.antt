@@ -95,6 +95,7 @@ pub record FromGoes (a b : Node) (old new : Moment) (came : Told (List ℕ)) : T
   pub short : All (λ c. length c ≤ 4096) came.items
   pub counted : b.taken ≡ a.taken + length (concat came.items)
   pub input : InputGoes a.input b.input came old new
+  pub source : b.source ≡ a.source
   pub most : b.most ≡ a.most
 
 -- What its output adds: what that gained is what went out, or is cut short of it

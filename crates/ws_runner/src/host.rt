@@ -13,7 +13,7 @@ ghost use Rattle.ws_runner.specs.Past.{Driven, HasCounts};
 ghost use Rattle.ws_runner.specs.Turns.{Follows, HasHeard, IsBegun, NoneHeard};
 ghost use Rattle.ws_runner.specs.Went.{Went};
 
-use crate::node::{Abort, Input, Node, Output, SOURCE};
+use crate::node::{Abort, Input, Node, Output};
 use std::alloc::Global;
 use ws_io::{Failed, Sink, Source, write_whole};
 use ws_realm::{Answer, Call, Chunk, Event, Fault, HostId, NoMemory, Plain, StreamId, Value, Why};
@@ -196,7 +196,7 @@ impl Node {
             Ok(chunk) => self.take_chunk(chunk),
             Err(Failed) => {
                 self.input = Input::Failed;
-                self.ask(Call::Fail(SOURCE, Plain::Fault(Fault::Read)))
+                self.ask(Call::Fail(self.source, Plain::Fault(Fault::Read)))
             }
         }
     }
@@ -208,16 +208,16 @@ impl Node {
     {
         if chunk.is_empty() {
             self.input = Input::Ended;
-            return self.ask(Call::Finish(SOURCE));
+            return self.ask(Call::Finish(self.source));
         }
         let count = chunk.len() as u64;
         self.taken += count;
         self.ahead = count;
         if self.taken > self.most {
             self.input = Input::TooLong;
-            return self.ask(Call::Fail(SOURCE, Plain::Fault(Fault::TooMuch)));
+            return self.ask(Call::Fail(self.source, Plain::Fault(Fault::TooMuch)));
         }
-        let _taken = self.enqueue(SOURCE, chunk);
+        let _taken = self.enqueue(self.source, chunk);
     }
 
     /// A chunk that came to a stage is pushed. A stage that is over is asked nothing more, and nothing is answered for

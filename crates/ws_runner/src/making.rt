@@ -9,7 +9,7 @@ ghost use Rattle.ws_steps.specs.Run as steps;
 ghost use Rattle.ws_steps.specs.declared.calls.Call.TheVariants.{MakeSignal};
 ghost use Rattle.ws_steps.specs.declared.calls.Reply.TheVariants as reply;
 
-use crate::node::{Abort, Input, Node, Output, SOURCE};
+use crate::node::{Abort, Input, Node, Output};
 use std::alloc::Global;
 use ws_realm::{
     Call, Kind, NoMemory, Prevent, PromiseId, Realm, Reply, SignalId, SizeBy, StartBy, StreamId,
@@ -135,6 +135,7 @@ impl Node {
         Ok(Node {
             realm,
             stages,
+            source: StreamId(0),
             sink: StreamId(2 * count + 1),
             pipes_before,
             pipe,

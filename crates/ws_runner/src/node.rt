@@ -19,9 +19,6 @@ use ws_realm::{
 };
 use ws_stages::Work;
 
-/// The number of the stream that the input feeds.
-pub const SOURCE: StreamId = StreamId(0);
-
 /// What became of the input.
 #[derive(Clone, Copy)]
 pub enum Input {
@@ -64,6 +61,8 @@ pub struct Node {
     pub realm: Realm,
     /// The stages, in order.
     pub stages: Vec<Work>,
+    /// The stream that the input feeds.
+    pub source: StreamId,
     /// The stream that feeds the output.
     pub sink: StreamId,
     /// The promises of the pipes into the stages.

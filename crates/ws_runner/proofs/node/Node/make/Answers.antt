@@ -100,6 +100,7 @@ returns c =
     record {
       slots = led-is plan c.requires c.map-signal.result c.len-count.result c.make_pipes.new.realm.slots c.make_pipe.new.realm.slots signal count piped c.in_ok-pipe.ensures.slots;
       stages = c.in_ok-stages.ensures.stages ∙ ap (λ (ps : List Placed). all_begun (map (λ (p : Placed). p.stage) ps)) c.deref.ensures.value;
+      source = refl;
       sink = ap dest_of count;
       answered = is-answered plan c.requires c.map-signal.result c.len-count.result c.make_pipes.new.realm.slots c.in_ok-pipe.pipe signal count piped c.in_ok-pipe.ensures.answered;
       before_answered = are-answered plan c.requires c.len-count.result c.match-plan.realm.slots c.in_ok-pipes_before.pipes_before.items count made.slots c.in_ok-pipes_before.ensures.answered;

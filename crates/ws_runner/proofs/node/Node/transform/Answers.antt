@@ -48,9 +48,9 @@ push-pushed-requires-clause-length c =
 pub returns : goal.returns
 returns c =
     let s = c.in-Some-get_mut in
-    let had : Had c.in-Some.place (length c.in-Bytes.chunk) c.args.self.now.ahead c.if-place-eq0.self.1.1.1.1.1.1.1.1.1.0 = elim c.if-place-eq0.branch [
-      | then-place-eq0 w ↦ FirstHad w.if-place-eq0.true (ap (λ q. q.1.1.1.1.1.1.1.1.1.0) w.self-is ∙ ap (λ k. c.args.self.now.ahead - k) w.len.ensures)
-      | else-place-eq0 w ↦ OtherHad (λ e. absurd (omega arith)) (ap (λ q. q.1.1.1.1.1.1.1.1.1.0) w.self-is)
+    let had : Had c.in-Some.place (length c.in-Bytes.chunk) c.args.self.now.ahead c.if-place-eq0.self.1.1.1.1.1.1.1.1.1.1.0 = elim c.if-place-eq0.branch [
+      | then-place-eq0 w ↦ FirstHad w.if-place-eq0.true (ap (λ q. q.1.1.1.1.1.1.1.1.1.1.0) w.self-is ∙ ap (λ k. c.args.self.now.ahead - k) w.len.ensures)
+      | else-place-eq0 w ↦ OtherHad (λ e. absurd (omega arith)) (ap (λ q. q.1.1.1.1.1.1.1.1.1.1.0) w.self-is)
     ] in
     subst (λ (value : Value). transforms_by c.args.id c.args.stream value c.args.self.now c.put_out.new.self) (sym c.in-Bytes.is)
     (pushed-by c.args.id c.args.stream c.in-Bytes.chunk c.args.self.now c.put_out.new.self _ _ _ s.work.now c.push-pushed.new.self c.push-pushed.result
