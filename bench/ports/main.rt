@@ -1,15 +1,15 @@
 //! How long messages take through a row, over a table and over a queue: between two threads, and posted and taken in
 //! turn by one. With a word it measures, and prints a line for each in milliseconds; without one it does nothing.
 #![tactic(auto)]
+
 ghost use Rattle.std.specs.Prelude.{◌≤◌, length};
 
 use std::alloc::Global;
-use std::env;
 use std::io::{self, ErrorKind};
 use std::sync::Wait;
-use std::thread;
 use std::thread::Threads;
 use std::time::Instant;
+use std::{env, thread};
 use ws_port::PostRefused;
 use ws_value::{Message, NoMemory};
 
