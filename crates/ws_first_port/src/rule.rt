@@ -1,4 +1,4 @@
-//! The rule of a row: what was sent is what was received and then what the queue holds. No value of these types is
+//! The rule of a row: what was sent is what was received and then what the queue holds. Of the structs no value is
 //! made.
 ghost use Rattle.std.specs.Prelude.{◌≡◌, true, [], ◌∷◌, ◌++◌, ◌≤◌, length};
 ghost use Rattle.ws_first_port.specs.Rule.{log, sender_part, receiver_part, both_parts, no_part, Relayed};

@@ -1,5 +1,4 @@
-//! The rule of a row, what its two ends know, and what each of their steps tells them. No value of these types is
-//! made.
+//! The rule of a row, what its two ends know, and what each of their steps tells them. Of the structs no value is made.
 ghost use Rattle.ws_port.specs.Rule.{Kept};
 ghost use Rattle.ws_port.specs.Steps.{opened, sender_part, receiver_part, both_parts, no_part, FindsTaken, Posts, FindsPosted, Takes};
 
