@@ -11,11 +11,12 @@ use Rattle.ws_steps.specs.Slots.{Slots, Done, causes}
 use Rattle.ws_steps.specs.Turns.{row, performed}
 use Rattle.ws_room_laws.proofs.Turns.{performed_next, performed_none}
 use Rattle.ws_tables.specs.View.{slots_of}
-use Rattle.ws_tables.specs.Room.{Places, AreEnough, CanTurn, HasRoomFor, HasRoomForAll, IsKept, IsPrepared, IsResting, Performs, PerformsAll}
+use Rattle.ws_tables.specs.Room.{Places, AreEnough, CanTurn, HasRoomForAll, IsKept, IsPrepared, IsResting}
+use Rattle.ws_effects.specs.Performing.{HasRoomFor, Performs, PerformsAll}
 use Rattle.ws_tables.specs.declared.tables.Tables.{Tables}
 use Rattle.ws_tables.proofs.Places.{kept_same}
-use Rattle.ws_tables.proofs.Turns.{room-for, next-room, next-turns}
-use Rattle.ws_calls.specs.Begin.{IsBegun}
+use Rattle.ws_effects.proofs.Turns.{room-for, next-room, next-turns}
+use Rattle.ws_begin.specs.Begin.{IsBegun}
 use Rattle.ws_calls.specs.First.{Began}
 use Rattle.ws_calls.proofs.Beginning.{job-begins}
 

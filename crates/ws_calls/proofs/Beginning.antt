@@ -20,13 +20,13 @@ use Rattle.ws_room_laws.proofs.Room.{Begins as BeginsWithin, begin-fits, job-fit
 use Rattle.ws_laws.proofs.Begin.{begin-makes}
 use Rattle.ws_tables.specs.View.{slots_of, stream_of, signal_of, tee_of}
 use Rattle.ws_tables.specs.Room.{Places, places_of, room_of, queued_in, requested_in, described_in, waiting_in, aborts_in, IsWithin, HasLists, HasRooms, AllCovered, AllHaveMembers, IsCounted, HasFew, AreSourced, HasCopies, AreCopied, asked, CanTurn, HasRoomForAll, IsPrepared, IsResting, IsKept}
-use Rattle.ws_calls.specs.Begin.{IsBegun, IsEmpty, Answers, Begins, MakesNone, MakesOne, MakesTwo, MakesSignal, RecordsAfter}
+use Rattle.ws_begin.specs.Begin.{IsBegun, IsEmpty, Answers, Begins, MakesNone, MakesOne, MakesTwo, MakesSignal, RecordsAfter}
 use Rattle.ws_tables.specs.declared.tables.Stream.{Stream as StreamRecord}
 use Rattle.ws_tables.specs.declared.tables.Stream.TheVariants.{Readable, Bytes, Writable}
 use Rattle.ws_tables.specs.declared.tables.Tables.{Tables}
-use Rattle.ws_tables.proofs.Fits.{Takes, takes, within-less, queued-within, all-at-one, members-at}
-use Rattle.ws_tables.proofs.Keeps.{later-is, one-tee, no-tee, more-sources, tees-turns, tees-promises, tees-jobs, tees-events, tees-hosts, tees-requests}
-use Rattle.ws_tables.proofs.Turns.{rooms-less, no-rooms, copied-none}
+use Rattle.ws_effects.proofs.Fits.{Takes, takes, within-less, queued-within, all-at-one, members-at}
+use Rattle.ws_effects.proofs.Keeps.{later-is, one-tee, no-tee, more-sources, tees-turns, tees-promises, tees-jobs, tees-events, tees-hosts, tees-requests}
+use Rattle.ws_effects.proofs.Turns.{rooms-less, no-rooms, copied-none}
 use Rattle.ws_calls.proofs.Made.{Sourced, HandsFirst, added, counted-makes, job-counted, begin-few, job-few, begin-sourced, job-sourced, begin-hands, job-hands}
 
 -- what has begun leaves the places as they are, and makes one stream, or two, or one signal, or none of these

@@ -1,6 +1,4 @@
 pub mod Answered
 pub mod AtOnce
 pub mod Beginning
-pub mod Idle
-pub mod Looking
 pub mod Made

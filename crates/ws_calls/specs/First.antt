@@ -15,7 +15,7 @@ use Rattle.ws_tables.specs.View.{slots_of}
 use Rattle.ws_tables.specs.declared.tables.Tables.{Tables}
 use Rattle.ws_calls.specs.declared.first.First.{First}
 use Rattle.ws_calls.specs.declared.first.First.TheVariants.{Pulled, Wrote, PipeWrites, PipeReady, PipeWrote, WriteGoesOn, Fulfils}
-use Rattle.ws_calls.specs.Begin.{IsBegun}
+use Rattle.ws_begin.specs.Begin.{IsBegun}
 
 abbrev pub effect_of : First → Effect
 effect_of (Pulled i) = Readable i (PullSettled (Ok Undefined))

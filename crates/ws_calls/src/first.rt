@@ -3,10 +3,12 @@
 ghost use Rattle.std.specs.Prelude.{◌≡◌, [], ◌∷◌, Ok, IfSome, true, false};
 ghost use Rattle.ws_value.specs.declared.value.Plain.TheVariants.{Undefined};
 ghost use Rattle.ws_steps.specs.Jobs.{job_effects, steps};
-ghost use Rattle.ws_tables.specs.Room.{HasRoomFor, IsKept, IsPrepared, IsResting, Performs};
+ghost use Rattle.ws_effects.specs.Performing.{HasRoomFor, Performs};
+ghost use Rattle.ws_tables.specs.Room.{IsKept, IsPrepared, IsResting};
 ghost use Rattle.ws_calls.specs.First.{Began, effect_of};
 ghost use Rattle.ws_calls.specs.declared.first.First.TheVariants as first;
 
+use ws_effects::{perform_pipe, perform_readable, perform_transform, perform_writable};
 use ws_steps::{
     Job, Micro, PipeOperation, ReadableOperation, Step, TransformId, TransformOperation,
     WritableOperation,
@@ -82,7 +84,7 @@ fn pulled(tables: &mut Tables, i: StreamId)
     ensures kept { IsKept tables.new }
 {
     let mut operation = ReadableOperation::PullSettled(Ok(Plain::Undefined));
-    tables.perform_readable(i, &mut operation);
+    perform_readable(tables, i, &mut operation);
 }
 
 /// The write algorithm of a writable stream has ended.
@@ -94,7 +96,7 @@ fn wrote(tables: &mut Tables, i: StreamId)
     ensures kept { IsKept tables.new }
 {
     let mut operation = WritableOperation::WriteSettled(Ok(Plain::Undefined));
-    tables.perform_writable(i, &mut operation);
+    perform_writable(tables, i, &mut operation);
 }
 
 /// A pipe writes the chunk that it holds.
@@ -106,7 +108,7 @@ fn pipe_writes(tables: &mut Tables, p: PipeId)
     ensures kept { IsKept tables.new }
 {
     let mut operation = PipeOperation::WriteChunk;
-    tables.perform_pipe(p, &mut operation);
+    perform_pipe(tables, p, &mut operation);
 }
 
 /// The writer of a pipe has become ready.
@@ -118,7 +120,7 @@ fn pipe_ready(tables: &mut Tables, p: PipeId)
     ensures kept { IsKept tables.new }
 {
     let mut operation = PipeOperation::LookReady;
-    tables.perform_pipe(p, &mut operation);
+    perform_pipe(tables, p, &mut operation);
 }
 
 /// A write of a pipe has settled.
@@ -130,7 +132,7 @@ fn pipe_wrote(tables: &mut Tables, p: PipeId)
     ensures kept { IsKept tables.new }
 {
     let mut operation = PipeOperation::WriteEnded;
-    tables.perform_pipe(p, &mut operation);
+    perform_pipe(tables, p, &mut operation);
 }
 
 /// A write of a transform stream waits for its backpressure no longer.
@@ -142,7 +144,7 @@ fn write_goes_on(tables: &mut Tables, t: TransformId, promise: PromiseId)
     ensures kept { IsKept tables.new }
 {
     let mut operation = TransformOperation::WriteGoesOn(promise);
-    tables.perform_transform(t, &mut operation);
+    perform_transform(tables, t, &mut operation);
 }
 
 /// Fulfils a promise with undefined.

@@ -1,6 +1,7 @@
 //! The tables of a realm.
 ghost use Rattle.std.specs.Prelude.{◌≡◌, []};
-ghost use Rattle.ws_tables.specs.Room.{CanTurn, HasRoomForAll, IsKept, PerformsAll};
+ghost use Rattle.ws_tables.specs.Room.{CanTurn, HasRoomForAll, IsKept};
+ghost use Rattle.ws_effects.specs.Performing.{PerformsAll};
 
 use ws_tables::Tables;
 
@@ -12,5 +13,5 @@ pub fn perform_effects(tables: &mut Tables)
     requires kept { IsKept tables.old }
     ensures { PerformsAll tables.old tables.new }
 {
-    tables.perform_effects();
+    ws_effects::perform_effects(tables);
 }

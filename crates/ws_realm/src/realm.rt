@@ -15,6 +15,7 @@ ghost use Rattle.ws_realm.specs.declared.realm.Why.TheVariants as why;
 use std::alloc::Global;
 use std::marker::Model;
 use ws_calls::{perform_call, perform_enqueue, perform_job, settle_done};
+use ws_prepare::prepare;
 use ws_steps::{Call, Event, Reply};
 use ws_tables::Tables;
 use ws_value::{HostId, NoMemory, Outcome, Plain, PortId, PromiseId, StreamId, TeeId, Value};
@@ -90,7 +91,7 @@ impl Realm {
         if self.tables.age == OLDEST {
             return Err(Why::Spent);
         }
-        match self.tables.prepare() {
+        match prepare(&mut self.tables) {
             Ok(()) => {
                 self.prepared = true;
                 Ok(())

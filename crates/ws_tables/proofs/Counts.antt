@@ -27,7 +27,7 @@ use Rattle.ws_laws.proofs.Cases.{Puts, settle-cases, answer-cases, react-cases, 
 use Rattle.ws_laws.proofs.Rows.{Changes, row-changes}
 use Rattle.ws_laws.proofs.Shapes.{stream_shape, transform_shape, tee_shape, row-stream_shapes, row-transform_shapes, row-tee_shapes}
 use Rattle.ws_tables.specs.Room.{AreCounted, HasFew, HaveOwnSources, AreSourced}
-use Rattle.ws_tables.proofs.Streams.{put-is}
+use Rattle.ws_tables.proofs.Elements.{put-is}
 
 -- promises get no fewer
 

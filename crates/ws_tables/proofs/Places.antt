@@ -1,15 +1,14 @@
 -- What operations on promises leave of the places that are taken, and of what a realm keeps.
 use Rattle.std.proofs.Common.{◌≡◌, ◌≤◌, ◌+◌, [], ◌∷◌, length, map, Some, refl, sym, ap, subst, ◌∙◌, arith}
-use Rattle.ws_steps.specs.declared.effects.Effect.{Effect}
 use Rattle.ws_steps.specs.Promises.{Table, pending, fresh}
 use Rattle.ws_steps.specs.Slots.{Slots}
 use Rattle.ws_promise.specs.Seen.{Seen, jobs_in, events_in}
 use Rattle.ws_steps.proofs.PromiseLaws.{length-fresh}
 use Rattle.ws_room_laws.proofs.Tables.{reactions-append, unnoted-append}
 use Rattle.ws_tables.specs.View.{slots_of, stream_of, signal_of}
-use Rattle.ws_tables.specs.Room.{waiting_in, aborts_in, HasFew, IsKept, KeepsRecords, Performs}
+use Rattle.ws_tables.specs.Room.{waiting_in, aborts_in, HasFew, IsKept, KeepsRecords}
 use Rattle.ws_tables.specs.declared.tables.Tables.{Tables}
-use Rattle.ws_tables.proofs.Counts.{counted-on, entries-more, row-few}
+use Rattle.ws_tables.proofs.Counts.{counted-on}
 
 pub fresh_length : (t : Table) → length (fresh t).entries ≡ length t.entries + 1
 fresh_length t = length-fresh t
@@ -41,11 +40,6 @@ kept_beside t t' same more few kept = record {
 pub kept_promises : (t : Tables) (p : Seen) → length t.promises.table.entries ≤ length p.table.entries → IsKept t → IsKept (record t { promises = p })
 kept_promises t p more kept =
     kept_beside t (record t { promises = p }) (record { streams = refl; grown = refl; waiting = refl; pipes = refl; signals = refl; full = refl; aborts = refl; tees = refl; uncopied = refl }) more (kept.few.0, kept.few.1) kept
-
-pub kept_by : (e : Effect) (t t' : Tables) → Performs e t t' → KeepsRecords t t' → IsKept t → IsKept t'
-kept_by e t t' did same kept =
-    kept_beside t t' same (subst (λ (s : Slots). length t.promises.table.entries ≤ length s.promises.entries) (sym did.slots) (entries-more e (slots_of t)))
-    (subst HasFew (sym did.slots) (row-few e (slots_of t) kept.few)) kept
 
 pub kept_same : (t t' : Tables) → slots_of t' ≡ slots_of t → KeepsRecords t t' → IsKept t → IsKept t'
 kept_same t t' slots same kept = let h = ap (λ (s : Slots). length s.promises.entries) slots in kept_beside t t' same (omega (arith, h)) (subst HasFew (sym slots) kept.few) kept

@@ -1,5 +1,5 @@
 -- The places in memory that a realm has, and those that it may come to need.
-use Rattle.std.specs.Prelude.{ℕ, zero, suc, ◌≡◌, ◌+◌, ◌*◌, ◌≤◌, ◌<◌, ◌⊎◌, List, [], ◌∷◌, ◌++◌, length, map, reverse, Option, Some, None, Bool, false, ◌&&◌, not, if◌then◌else◌, ⊤, Contains, slice_get, vec_len, vec_capacity}
+use Rattle.std.specs.Prelude.{ℕ, zero, suc, ◌≡◌, ◌+◌, ◌*◌, ◌≤◌, ◌<◌, ◌⊎◌, List, [], ◌∷◌, length, Option, Some, None, false, ⊤, Contains, slice_get, vec_len, vec_capacity}
 use Rattle.std.specs.Global.{Vec}
 use Rattle.ws_value.specs.declared.ids.SignalId.{SignalId}
 use Rattle.ws_value.specs.declared.ids.StreamId.{StreamId}
@@ -10,12 +10,10 @@ use Rattle.ws_queue.specs.Seen.{Lists as TwoLists}
 use Rattle.ws_tee.specs.Seen.{SeenTee, CanHand}
 use Rattle.ws_steps.specs.declared.effects.Effect.{Effect}
 use Rattle.ws_steps.specs.Pipes as pipe
-use Rattle.ws_steps.specs.Places.{Prices, own, effect_price, prices_of, steps_price, abort_price, tees_keep, turns_alone, promises_alone, jobs_alone, events_alone, hosts_alone, queued_alone, requests_alone, requests_at, members_alone, descriptors_alone, copies_alone, measure}
-use Rattle.ws_steps.specs.Slots.{Slots, Stream as SeenStream, ReadableStream, ByteStream, WritableStream, causes, reads_any}
+use Rattle.ws_steps.specs.Places.{Prices, own, prices_of, steps_price, abort_price, tees_keep, turns_alone, promises_alone, jobs_alone, events_alone, hosts_alone, queued_alone, requests_alone, requests_at, members_alone, descriptors_alone, copies_alone}
+use Rattle.ws_steps.specs.Slots.{Slots, Stream as SeenStream, ReadableStream, ByteStream, WritableStream, reads_any}
 use Rattle.ws_steps.specs.Tee as tee
-use Rattle.ws_steps.specs.Turns.{row, performed}
 use Rattle.ws_tables.specs.View.{slots_of}
-use Rattle.ws_tables.specs.declared.prepare.TheConstants.{PLACES_FOR_EACH, PLACES_FOR_ANY}
 use Rattle.ws_tables.specs.declared.tables.Stream.{Stream}
 use Rattle.ws_tables.specs.declared.tables.Stream.TheVariants.{Readable, Bytes, Writable}
 use Rattle.ws_tables.specs.declared.tables.Tables.{Tables}
@@ -196,21 +194,6 @@ pub record IsKept (t : Tables) : Type 0 where
   pub counted : IsCounted (slots_of t)
   pub few : HasFew (slots_of t)
 
--- there are places for what the row of an effect takes by itself, and for the streams that it may come to note
-pub record HasRoomFor (e : Effect) (t : Tables) : Type 0 where
-  pub promises : HasPromiseRoom (own promises_alone e) t.promises
-  pub jobs : HasJobRoom (own jobs_alone e) t.promises
-  pub events : HasEventRoom (own events_alone e) t.promises
-  pub hosts : own hosts_alone e + vec_len t.hosts ≤ vec_capacity t.hosts
-  pub caused : effect_price turns_alone e + later turns_alone t + 6 ≤ t.caused.capacity
-  pub others : effect_price turns_alone e + later turns_alone t + 6 ≤ vec_capacity t.others
-  pub lists : EachHasLists (own queued_alone e) (λ i. own (requests_at (record { 0 = i })) e) (own descriptors_alone e) t.streams.items
-  pub rooms : EachHasRooms (own descriptors_alone e) t.streams.items
-  pub grown : effect_price queued_alone e + effect_price requests_alone e + vec_len t.grown ≤ vec_capacity t.grown
-  pub members : EachHasMembers (own members_alone e) t.signals.items
-  pub full : own members_alone e + vec_len t.full ≤ vec_capacity t.full
-  pub copies : EachHasCopies (own copies_alone e) t.tees.items
-
 -- the requests that these effects, and tees, may yet make at stream i
 abbrev pub asked : List Effect → Tables → ℕ → ℕ
 asked es t i = prices_of (requests_at (record { 0 = i })) es + tees_keep (requests_at (record { 0 = i })) (slots_of t).tees
@@ -264,36 +247,6 @@ pub record IsPrepared (t : Tables) : Type 0 where
   pub pipes : vec_len t.pipes < vec_capacity t.pipes
   pub signals : vec_len t.signals < vec_capacity t.signals
 
--- so many places serve any list, beside those of read requests that wait
-abbrev pub base_places : Tables → ℕ
-base_places t = (t.aborts + vec_len t.tees) * PLACES_FOR_EACH + PLACES_FOR_ANY
-
--- no stream and no signal waits for places, and no tee for copies
-pub record IsMade (t : Tables) : Type 0 where
-  pub places : EachHasPlaces t.streams.items
-  pub members : EachHasMembers 1 t.signals.items
-  pub copies : EachHasCopies 1 t.tees.items
-
--- there are places for n effects
-pub record HasTurns (n : ℕ) (t : Tables) : Type 0 where
-  pub caused : n ≤ t.caused.capacity
-  pub others : n ≤ vec_capacity t.others
-  pub under_way : n ≤ vec_capacity t.under_way
-
--- there are places for n answers of hosts, to note n streams, and for the other records that a call or job can make
-pub record HasRecords (n : ℕ) (t : Tables) : Type 0 where
-  pub hosts : n + vec_len t.hosts ≤ vec_capacity t.hosts
-  pub grown : vec_len t.grown + n ≤ vec_capacity t.grown
-  pub full : vec_len t.full < vec_capacity t.full
-  pub locks : vec_len t.locks + 2 ≤ vec_capacity t.locks
-  pub byob_requests : vec_len t.byob_requests < vec_capacity t.byob_requests
-  pub streams : vec_len t.streams + 2 ≤ vec_capacity t.streams
-  pub transforms : vec_len t.transforms < vec_capacity t.transforms
-  pub tees : vec_len t.tees < vec_capacity t.tees
-  pub ports : vec_len t.ports < vec_capacity t.ports
-  pub pipes : vec_len t.pipes < vec_capacity t.pipes
-  pub signals : vec_len t.signals < vec_capacity t.signals
-
 -- between calls and jobs: no effect waits
 pub record IsResting (t : Tables) : Type 0 where
   pub caused : t.caused.effects ≡ []
@@ -313,127 +266,11 @@ pub record KeepsRecords (t t' : Tables) : Type 0 where
   pub tees : t'.tees ≡ t.tees
   pub uncopied : t'.uncopied ≡ t.uncopied
 
--- the row of an effect is performed, in the places that there are
-pub record Performs (e : Effect) (t t' : Tables) : Type 0 where
-  pub slots : slots_of t' ≡ (row e (slots_of t)).slots
-  pub caused : t'.caused.effects ≡ (row e (slots_of t)).caused
-  pub others : t'.others ≡ t.others
-  pub places : places_of t' ≡ places_of t
-  pub lists : map room_of t'.streams.items ≡ map room_of t.streams.items
-  pub rooms : own descriptors_alone e ≡ 0 → RoomsStay t.streams.items t'.streams.items
-  pub grown : vec_len t'.grown + prices_of queued_alone t'.caused.effects + prices_of requests_alone t'.caused.effects + tees_keep requests_alone (slots_of t').tees
-      ≤ vec_len t.grown + effect_price queued_alone e + effect_price requests_alone e + tees_keep requests_alone (slots_of t).tees
-  pub members : map members_room t'.signals.items ≡ map members_room t.signals.items
-  pub full : vec_len t'.full + prices_of members_alone t'.caused.effects ≤ vec_len t.full + effect_price members_alone e
-
--- a stream that had the places for any call or job, and hasn't any more, is noted
-pub record NotesGrowth (i : StreamId) (had_room has_room : Bool) (t t' : Tables) : Type 0 where
-  pub tables : t' ≡ record t { grown = t'.grown }
-  pub grown : t'.grown.items ≡ (if had_room && not has_room then t.grown.items ++ i ∷ [] else t.grown.items)
-  pub capacity : vec_capacity t'.grown ≡ vec_capacity t.grown
-
--- a signal in which there was a place, and there is none any more, is noted
-pub record NotesFull (a : SignalId) (had_room has_room : Bool) (t t' : Tables) : Type 0 where
-  pub tables : t' ≡ record t { full = t'.full }
-  pub full : t'.full.items ≡ (if had_room && not has_room then t.full.items ++ a ∷ [] else t.full.items)
-  pub capacity : vec_capacity t'.full ≡ vec_capacity t.full
-
--- what was caused goes before the effects that wait, of which the next stands last
-
-abbrev pub CanPutFirst : Tables → Type 0
-CanPutFirst t = vec_len t.others + length t.caused.effects ≤ vec_capacity t.others
-
--- what was caused, before the effects that wait
-abbrev pub effects_of : Tables → List Effect
-effects_of t = t.caused.effects ++ reverse t.others.items
-
 -- so many places are enough for these effects and all that comes of them
 abbrev pub AreEnough : ℕ → List Effect → Tables → Type 0
 AreEnough n es t = prices_of turns_alone es + later turns_alone t + 6 ≤ n
-
--- an effect was performed, and maybe the one that it caused: what is left makes of the slots what the effect and those that wait make of them,
--- takes fewer turns, and has its places
-pub record GoesOn (e : Effect) (t t' : Tables) : Type 0 where
-  pub slots : performed (causes (effects_of t') (slots_of t')) ≡ performed (causes (e ∷ reverse t.others.items) (slots_of t))
-  pub fewer : measure (slots_of t') (effects_of t') < measure (slots_of t) (e ∷ reverse t.others.items)
-  pub room : HasRoomForAll (effects_of t') t'
-  pub turns : (n : ℕ) → AreEnough n (e ∷ reverse t.others.items) t → AreEnough n (effects_of t') t'
-  pub fits : CanPutFirst t'
-  pub others : t'.others ≡ t.others
-  pub kept : IsKept t'
 
 -- the list for the effect under way is empty, and has places enough
 pub record CanTurn (es : List Effect) (v : Vec Effect) (t : Tables) : Type 0 where
   pub empty : v.items ≡ []
   pub places : AreEnough (vec_capacity v) es t
-
--- the first of what is to be performed stands alone in the list for the effect under way
-pub record TakesFirst (t t' : Tables) (v : Vec Effect) : Type 0 where
-  pub alone : length v.items ≡ 1
-  pub effects : effects_of t ≡ v.items ++ reverse t'.others.items
-
--- nothing was left to be performed
-pub record FindsNone (t t' : Tables) (v : Vec Effect) : Type 0 where
-  pub effects : effects_of t ≡ []
-  pub others : t'.others.items ≡ []
-  pub under_way : v.items ≡ []
-
--- two lists have as many places as both had before, in either order
-abbrev pub KeepsLeast : ℕ → ℕ → ℕ → ℕ → Type 0
-KeepsLeast a b a' b' = (n : ℕ) → n ≤ a → n ≤ b → (n ≤ a') × (n ≤ b')
-
--- none is left of what was caused, and nothing changes but the effects
-pub record TakesOut (t t' : Tables) : Type 0 where
-  pub caused : t'.caused.effects ≡ []
-  pub slots : slots_of t' ≡ slots_of t
-  pub promises : t'.promises ≡ t.promises
-  pub hosts : t'.hosts ≡ t.hosts
-  pub places : places_of t' ≡ record (places_of t) { caused = t'.caused.capacity }
-  pub records : KeepsRecords t t'
-
--- all that was caused is performed, with all that comes of it, in the places that there are; and there is a place for one more event
-pub record PerformsAll (t t' : Tables) : Type 0 where
-  pub slots : slots_of t' ≡ performed (causes t.caused.effects (slots_of t))
-  pub resting : IsResting t'
-  pub age : t'.age ≡ t.age
-  pub events : HasEventRoom 1 t'.promises
-
--- memory is taken
-
--- the stream of this number, where there is one, has places for any call or job
-abbrev pub HasPlacesAt : StreamId → Tables → Type 0
-HasPlacesAt i t = (x : Stream) → slice_get t.streams.items i.0 ≡ Some x → HasPlaces x
-
--- each stream that had such places has them
-abbrev pub PlacesStay : List Stream → List Stream → Type 0
-PlacesStay xs ys = (i : ℕ) (y : Stream) → slice_get ys i ≡ Some y → (x : Stream) × ((slice_get xs i ≡ Some x) × (HasPlaces x → HasPlaces y))
-
--- the signal of this number, where there is one, has a place for one pipe more
-abbrev pub HasMembersAt : SignalId → Tables → Type 0
-HasMembersAt a t = (x : SeenSignal) → slice_get t.signals.items a.0 ≡ Some x → HasMemberRoom 1 x
-
--- a signal has the same pipes, and no fewer places
-pub record IsRoomier (x y : SeenSignal) : Type 0 where
-  pub signal : y.signal ≡ x.signal
-  pub room : x.room ≤ y.room
-
-abbrev pub MembersGrow : List SeenSignal → List SeenSignal → Type 0
-MembersGrow xs ys = (i : ℕ) (y : SeenSignal) → slice_get ys i ≡ Some y → (x : SeenSignal) × ((slice_get xs i ≡ Some x) × IsRoomier x y)
-
--- nothing changed beside the streams, and where places are to be made there
-pub record StaysBesideStreams (t t' : Tables) : Type 0 where
-  pub tables : t' ≡ record t { streams = t'.streams; grown = t'.grown }
-
--- nothing changed beside the signals, and where places are to be made there
-pub record StaysBesideSignals (t t' : Tables) : Type 0 where
-  pub tables : t' ≡ record t { signals = t'.signals; full = t'.full }
-
--- nothing changed beside the tees, and whether copies are to be made there
-pub record StaysBesideTees (t t' : Tables) : Type 0 where
-  pub tables : t' ≡ record t { tees = t'.tees; uncopied = t'.uncopied }
-  pub length : vec_len t'.tees ≡ vec_len t.tees
-  pub capacity : vec_capacity t'.tees ≡ vec_capacity t.tees
-
--- nothing changed beside the agenda
-pub record StaysBesideAgenda (t t' : Tables) : Type 0 where
-  pub tables : t' ≡ record t { caused = t'.caused; others = t'.others; under_way = t'.under_way }

@@ -1,21 +1,16 @@
 //! The tables of a realm: streams, pipes, tees, ports, signals, readers and writers by number, promises and one job
-//! queue; the performing of effects, and the taking of memory before them.
+//! queue.
 //!
-//! `agenda` performs effects, one at a time, each with what it causes before the others; `effects` finds what an
-//! effect concerns, and `kinds` has, for each kind of record, its look-ups and the performing of its operations.
-//! `prepare` takes the memory that a call or job can need, so that performing takes none.
-//!
-//! A call or job is begun by the crate above, which checks, makes places their content and causes the first effects.
-//! So the fields are public; what holds of them is in `specs/`.
+//! `kinds` has the look-ups of each kind of record, and `lookups` those of what is in any of them. What changes them
+//! stands in crates above: `ws_effects` performs effects, `ws_prepare` takes the memory that a call or job can need, so
+//! that performing takes none, and `ws_begin` has what calls and jobs begin with: they check, make places their content
+//! and cause the first effects. So the fields are public; what holds of them is in `specs/`.
 #![tactic(auto)]
 
-mod agenda;
-mod effects;
 mod hosts;
 mod kinds;
 mod lookups;
-mod prepare;
 mod tables;
 
 pub use hosts::HostPromise;
-pub use tables::{Stream, Tables};
+pub use tables::{LIST_PLACES, Stream, Tables};

@@ -15,6 +15,9 @@ use ws_transform::Transform;
 use ws_value::{NoMemory, SignalId, StreamId};
 use ws_writable::Writable;
 
+/// The places in each list of a stream that one call or job can need.
+pub const LIST_PLACES: usize = 4;
+
 /// A readable stream with a default controller, one with a byte controller, or a writable stream.
 #[derive(Drop)]
 pub enum Stream {

@@ -1,11 +1,8 @@
 //! Tees.
-ghost use Rattle.std.specs.Prelude.{◌≡◌, []};
+ghost use Rattle.std.specs.Prelude.{◌≡◌};
 ghost use Rattle.ws_steps.specs.Slots.{is_teed, pair_at};
-ghost use Rattle.ws_steps.specs.declared.effects.Effect.TheVariants as effect;
-ghost use Rattle.ws_tables.specs.Room.{HasRoomFor, IsKept, Performs};
 
 use crate::tables::Tables;
-use ws_steps::TeeOperation;
 use ws_value::{Plain, StreamId, TeeId};
 
 impl Tables {
@@ -31,21 +28,5 @@ impl Tables {
             return None;
         }
         self.tees[t.0 as usize].pair()
-    }
-
-    /// Performs an operation of the tee of this number, where there is one.
-    pub(crate) fn perform_tee(&mut self, t: TeeId, operation: TeeOperation)
-        requires quiet { self.old.caused.effects ≡ [] }
-        requires room { HasRoomFor (effect.Tee t operation) self.old }
-        requires kept { IsKept self.old }
-        ensures performs { Performs (effect.Tee t operation) self.old self.new }
-        ensures kept { IsKept self.new }
-    {
-        if self.tees.len() <= t.0 as usize {
-            return;
-        }
-        let tee = &mut self.tees[t.0 as usize];
-        tee.perform(t, &mut self.promises, &mut self.caused, operation);
-        self.uncopied |= !tee.can_hand();
     }
 }

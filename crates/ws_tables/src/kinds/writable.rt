@@ -1,12 +1,9 @@
 //! Writable streams.
-ghost use Rattle.std.specs.Prelude.{◌≡◌, [], true};
+ghost use Rattle.std.specs.Prelude.{◌≡◌, true};
 ghost use Rattle.ws_steps.specs.Slots.{has_writable, writable_at};
-ghost use Rattle.ws_steps.specs.declared.effects.Effect.TheVariants as effect;
-ghost use Rattle.ws_tables.specs.Room.{HasRoomFor, IsKept, Performs};
 
-use super::LIST_PLACES;
 use crate::tables::{Stream, Tables};
-use ws_steps::{WritableOperation, Writer};
+use ws_steps::Writer;
 use ws_value::StreamId;
 use ws_writable::Writable;
 
@@ -38,28 +35,6 @@ impl Tables {
         match self.streams.get(i.0 as usize) {
             Some(Stream::Writable(stream)) => stream.writer(),
             Some(Stream::Readable(_) | Stream::Bytes(_)) | None => None,
-        }
-    }
-
-    /// Performs an operation of the writable stream of this number, where there is one.
-    pub fn perform_writable(&mut self, i: StreamId, operation: &mut WritableOperation)
-        requires quiet { self.old.caused.effects ≡ [] }
-        requires room { HasRoomFor (effect.Writable i operation.old) self.old }
-        requires kept { IsKept self.old }
-        ensures performs { Performs (effect.Writable i operation.old) self.old self.new }
-        ensures kept { IsKept self.new }
-    {
-        if !self.has_writable(i) {
-            return;
-        }
-        match &mut self.streams[i.0 as usize] {
-            Stream::Writable(stream) => {
-                let had_room = stream.has_room(LIST_PLACES);
-                stream.perform(i, &mut self.promises, &mut self.caused, operation);
-                let has_room = stream.has_room(LIST_PLACES);
-                self.note_growth(i, had_room, has_room);
-            }
-            Stream::Readable(_) | Stream::Bytes(_) => unreachable!(),
         }
     }
 }

@@ -1,4 +1,4 @@
-use Rattle.ws_tables.proofs.Places.{kept_by}
+use Rattle.ws_effects.proofs.Kept.{kept_by}
 use Rattle.ws_calls.specs.First.{effect_of}
 use Rattle.ws_calls.specs.declared.first.First.TheVariants.{WriteGoesOn}
 use Rattle.ws_calls.proofs.first.write_goes_on.Goals as goal
