@@ -3,13 +3,14 @@ use Rattle.std.specs.Prelude.{ℕ, ◌≡◌, ◌+◌, ◌*◌, ◌≤◌, ◌<�
 use Rattle.ws_value.specs.declared.ids.SignalId.{SignalId}
 use Rattle.ws_value.specs.declared.ids.StreamId.{StreamId}
 use Rattle.ws_pipe.specs.Seen.{SeenSignal, HasMemberRoom}
+use Rattle.ws_prepare.specs.declared.memory.TheConstants.{PLACES_FOR_EACH, PLACES_FOR_ANY}
 use Rattle.ws_tables.specs.declared.tables.Stream.{Stream}
 use Rattle.ws_tables.specs.declared.tables.Tables.{Tables}
 use Rattle.ws_tables.specs.Room.{HasPlaces, EachHasPlaces, EachHasMembers, EachHasCopies}
 
 -- so many places serve any list, beside those of read requests that wait
 abbrev pub base_places : Tables → ℕ
-base_places t = (t.aborts + vec_len t.tees) * 15 + 34
+base_places t = (t.aborts + vec_len t.tees) * PLACES_FOR_EACH + PLACES_FOR_ANY
 
 -- no stream and no signal waits for places, and no tee for copies
 pub record IsMade (t : Tables) : Type 0 where

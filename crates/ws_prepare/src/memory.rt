@@ -7,16 +7,23 @@ ghost use Rattle.ws_tables.specs.View.{slots_of};
 use ws_tables::{LIST_PLACES, Stream, Tables};
 use ws_value::{NoMemory, SignalId, StreamId};
 
+/// How many places serve any list for each pipe that a signal would abort and for each tee: as many as the list that
+/// needs the most, which is the agenda.
+const PLACES_FOR_EACH: usize = 15;
+
+/// And how many for what any call or job takes by itself.
+const PLACES_FOR_ANY: usize = 34;
+
 /// Up to so many read requests, aborts and tees the places for them are reckoned without a look for an overflow.
 const FEW: usize = 0x7fff_ffff;
 
-/// How many places serve any list, beside those of read requests that wait: for each pipe that a signal would
-/// abort, for each tee, and for what any call or job takes by itself, as many as the list that needs the most.
+/// How many places serve any list, beside those of read requests that wait.
 fn base(tables: &Tables) -> Option<usize>
     ensures { IfSome result (λ n. n ≡ base_places tables.now) }
 {
     let both = tables.aborts.checked_add(tables.tees.len())?;
-    both.checked_mul(15)?.checked_add(34)
+    both.checked_mul(PLACES_FOR_EACH)?
+        .checked_add(PLACES_FOR_ANY)
 }
 
 /// Whether no stream and no signal waits for places, and no tee for copies.
@@ -73,7 +80,7 @@ fn has_all(tables: &Tables) -> bool
     if tables.waiting > FEW || tables.aborts > FEW || tables.tees.len() > FEW {
         return false;
     }
-    let base = (tables.aborts + tables.tees.len()) * 15 + 34;
+    let base = (tables.aborts + tables.tees.len()) * PLACES_FOR_EACH + PLACES_FOR_ANY;
     let jobs = base + tables.waiting;
     let turns = jobs + tables.waiting;
     if !is_made(tables) {
