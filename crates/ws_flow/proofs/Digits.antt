@@ -1,20 +1,21 @@
 -- `unhex`: each digit is read.
-use Rattle.std.proofs.Common.{◌≡◌, ◌≢◌, ◌⊎◌, inl, inr, ℕ, suc, ◌+◌, ◌*◌, ◌/◌, ◌%◌, ◌<◌, ◌≤◌, Bool, true, false, ◌||◌, nat_eq, Option, Some, None, List, [], ◌∷◌, ◌++◌, length, append_assoc, append-nil, length-append, refl, sym, ap, ◌∙◌, arith}
+use Rattle.std.proofs.Common.{◌≡◌, ◌≢◌, ◌⊎◌, inl, inr, ℕ, suc, ◌+◌, ◌*◌, ◌/◌, ◌%◌, ◌<◌, ◌≤◌, Bool, true, false, ◌||◌, nat_eq, Option, Some, None, List, [], ◌∷◌, ◌++◌, length, append_assoc, append-nil, length-append, refl, sym, ap, ◌∙◌, arith, ◌-◌, map, get_or}
 use Rattle.std.specs.Prelude.{if◌then◌else◌, codes}
 use Rattle.std.specs.List.{concat}
 use Rattle.std.proofs.lemmas.List.Elements.{All-nil, All-push}
-use Rattle.hex.specs.Hex.{hex_digit_value}
+use Rattle.hex.specs.Hex.{hex_digit_value, encode_lower, encode_with, lower_digits}
 use Rattle.ws_flow.specs.declared.plan.Ending.{Ending}
 use Rattle.ws_flow.specs.declared.plan.Ending.TheVariants.{Fine, Bad}
 use Rattle.ws_flow.specs.declared.plan.Stage.TheVariants.{Unhex}
-use Rattle.ws_flow.specs.Told.{Closed, Broken, told, bytes_of}
-use Rattle.ws_flow.specs.Machines.{Kept, Pushed, ending, pushed, nothing_kept, with_rest, added, each_byte}
+use Rattle.ws_flow.specs.Told.{Mark, Open, Closed, Broken, Lost, told, then_told, bytes_of}
+use Rattle.ws_flow.specs.Machines.{Kept, Pushed, ending, pushed, nothing_kept, with_rest, added, each_byte, mark_of, end_mark, at_end, more, or_else, end_verdict, verdict, SomeBytes, byte_machine}
 use Rattle.ws_flow.specs.Stages.{digit_met, unhex_byte, odd_end, digit_or_none, digits_in, digits_of, IsPassedOver, DigitsDone, DigitWrong, machine, machines, is_of_end}
 use Rattle.ws_flow.specs.Plans.{as_one, reach}
-use Rattle.ws_flow.proofs.Cutting.{joined_append}
-use Rattle.ws_flow.proofs.Whole.{EachIs, StepSays, Stepwise, all_units, says_all}
+use Rattle.ws_flow.proofs.Cutting.{joined_append, more_bytes, verdict_bytes}
+use Rattle.ws_flow.proofs.Whole.{EachIs, StepSays, Stepwise, all_units, says_all, each_cons, kept_of}
 use Rattle.ws_flow.proofs.Short.{EachShort, more_short, rest_short}
 use Rattle.ws_flow.proofs.Kind.{NeverLate, each_never_late, IsKind}
+use Rattle.hex.proofs.HexLemmas.{IsDigits-lower_digits}
 
 pub digits_in-append : (a b : List ℕ) → digits_in (a ++ b) ≡ digits_in a ++ digits_in b
 digits_in-append [] b = refl
@@ -184,3 +185,93 @@ odd_digits_write = refl
 
 feeds_are_passed_over : bytes_of (reach (Unhex ∷ []) (codes "0\r\n1\n2f") Closed) ≡ told (1 ∷ 47 ∷ []) Closed
 feeds_are_passed_over = refl
+
+-- of `hex` it is the input
+
+not_passed : (b d : ℕ) → hex_digit_value b ≡ Some d → (nat_eq b 10 || nat_eq b 13) ≡ false
+not_passed b d h = by (nat_eq b 10) (nat_eq b 13) refl refl where
+  by : (x y : Bool) → nat_eq b 10 ≡ x → nat_eq b 13 ≡ y → (x || y) ≡ false
+  by true y e f = absurd (no_value b d (is 10 e) h) where
+    is : (n : ℕ) → nat_eq b n ≡ true → b ≡ n
+    is n e = grind arith
+
+    no_value : (b d : ℕ) → b ≡ 10 → hex_digit_value b ≡ Some d → ⊥
+    no_value b d e h = let g = ap hex_digit_value (sym e) ∙ h in cc
+  by false true e f = absurd (no_value b d (is 13 f) h) where
+    is : (n : ℕ) → nat_eq b n ≡ true → b ≡ n
+    is n e = grind arith
+
+    no_value : (b d : ℕ) → b ≡ 13 → hex_digit_value b ≡ Some d → ⊥
+    no_value b d e h = let g = ap hex_digit_value (sym e) ∙ h in cc
+  by false false e f = refl
+
+unhex_first : (y n b d : ℕ) → hex_digit_value b ≡ Some d → unhex_byte (kept_of [] y n) b ≡ pushed (kept_of (d ∷ []) (y + 1) n) [] Fine
+unhex_first y n b d h =
+    ap (λ z. if z then pushed (with_rest (kept_of [] y n) []) [] Fine else digit_met (kept_of [] y n) [] (hex_digit_value b)) (not_passed b d h)
+    ∙ ap (λ o. digit_met (kept_of [] y n) [] o) h
+
+unhex_second : (x y n b d : ℕ) → hex_digit_value b ≡ Some d → unhex_byte (kept_of (x ∷ []) y n) b ≡ pushed (kept_of [] (y + 1) n) (((16 * x + d) ∷ []) ∷ []) Fine
+unhex_second x y n b d h =
+    ap (λ z. if z then pushed (with_rest (kept_of (x ∷ []) y n) (x ∷ [])) [] Fine else digit_met (kept_of (x ∷ []) y n) (x ∷ []) (hex_digit_value b)) (not_passed b d h)
+    ∙ ap (λ o. digit_met (kept_of (x ∷ []) y n) (x ∷ []) o) h
+
+unhex_pair : (y n b c x d : ℕ) (bs : List ℕ) → hex_digit_value b ≡ Some x → hex_digit_value c ≡ Some d →
+    each_byte unhex_byte (kept_of [] y n) (b ∷ c ∷ bs) ≡ added (((16 * x + d) ∷ []) ∷ []) Fine (kept_of [] 0 0) (each_byte unhex_byte (kept_of [] (y + 1 + 1) n) bs)
+unhex_pair y n b c x d bs h g =
+    each_cons unhex_byte (kept_of [] y n) b (c ∷ bs) (pushed (kept_of (x ∷ []) (y + 1) n) [] Fine) (unhex_first y n b x h)
+    ∙ ap (λ q. added [] Fine (kept_of (x ∷ []) (y + 1) n) q) (each_cons unhex_byte (kept_of (x ∷ []) (y + 1) n) c bs (pushed (kept_of [] (y + 1 + 1) n) (((16 * x + d) ∷ []) ∷ []) Fine) (unhex_second x (y + 1) n c d g))
+
+whole_byte : (b : ℕ) → 16 * (b / 16) + b % 16 ≡ b
+whole_byte b = omega arith
+
+-- the text of some bytes reads back
+pub unhex_text : (y n : ℕ) (bs : List ℕ) → EachIs (λ b. b < 256) bs →
+    (concat (each_byte unhex_byte (kept_of [] y n) (encode_lower bs)).chunks ≡ bs) × ((each_byte unhex_byte (kept_of [] y n) (encode_lower bs)).ending ≡ Fine) × ((each_byte unhex_byte (kept_of [] y n) (encode_lower bs)).kept.rest ≡ [])
+unfolding encode_with
+unhex_text y n [] h = (refl, refl, refl)
+unhex_text y n (b ∷ bs) (w, h) =
+    let r = unhex_text (y + 1 + 1) n bs h in
+    let high : b / 16 < 16 = omega arith in
+    let low : b % 16 < 16 = omega arith in
+    let e = unhex_pair y n (get_or lower_digits (b / 16) 0) (get_or lower_digits (b % 16) 0) (b / 16) (b % 16) (encode_lower bs) (IsDigits-lower_digits (b / 16) high) (IsDigits-lower_digits (b % 16) low) in (
+      ap (λ q. concat q.chunks) e ∙ ap (λ q. (16 * (b / 16) + b % 16) ∷ q) r.0 ∙ ap (λ q. q ∷ bs) (whole_byte b),
+      ap (λ q. q.ending) e ∙ r.1,
+      ap (λ q. q.kept.rest) e ∙ r.2,
+    )
+
+pub encoded-append : (a b : List ℕ) → encode_lower (a ++ b) ≡ encode_lower a ++ encode_lower b
+unfolding encode_with
+encoded-append [] b = refl
+encoded-append (x ∷ a) b = ap (λ q. get_or lower_digits (x / 16) 0 ∷ get_or lower_digits (x % 16) 0 ∷ q) (encoded-append a b)
+
+pub concat_encoded : (cs : List (List ℕ)) → concat (map encode_lower cs) ≡ encode_lower (concat cs)
+unfolding encode_with
+concat_encoded [] = refl
+concat_encoded (c ∷ cs) = ap (λ q. encode_lower c ++ q) (concat_encoded cs) ∙ sym (encoded-append c (concat cs))
+
+ended_fine : (e : Mark) (k : Kept) → k.rest ≡ [] → (bytes_of (at_end (byte_machine SomeBytes unhex_byte (λ k. odd_end k k.rest)) k e) ≡ told [] e) × (end_verdict (byte_machine SomeBytes unhex_byte (λ k. odd_end k k.rest)) k e ≡ Fine)
+ended_fine Open k h = (refl, refl)
+ended_fine Broken k h = (refl, refl)
+ended_fine Lost k h = (refl, refl)
+ended_fine Closed k h = (ap (λ q. bytes_of (told (odd_end k q).chunks (end_mark (odd_end k q).ending))) h, ap (λ q. (odd_end k q).ending) h)
+
+pub unhex_of_hex : (xs : List (List ℕ)) (e : Mark) → EachIs (λ b. b < 256) (concat xs) →
+    let m = byte_machine SomeBytes unhex_byte (λ k. odd_end k k.rest) in
+    (bytes_of (more m nothing_kept (map encode_lower xs) e) ≡ told (concat xs) e) × (verdict m nothing_kept (map encode_lower xs) e ≡ Fine)
+unhex_of_hex xs e h =
+    let m = byte_machine SomeBytes unhex_byte (λ k. odd_end k k.rest) in
+    let t = encode_lower (concat xs) in
+    let p = each_byte unhex_byte nothing_kept t in
+    let r = unhex_text 0 0 (concat xs) h in
+    let f = ended_fine e p.kept r.2 in (
+      more_bytes SomeBytes unhex_byte (λ k. odd_end k k.rest) nothing_kept (map encode_lower xs) e
+          ∙ ap (λ q. then_told (told (concat (each_byte unhex_byte nothing_kept q).chunks) (mark_of (each_byte unhex_byte nothing_kept q).ending)) (bytes_of (at_end m (each_byte unhex_byte nothing_kept q).kept e))) (concat_encoded xs)
+          ∙ ap (λ q. then_told (told (concat p.chunks) (mark_of q)) (bytes_of (at_end m p.kept e))) r.1
+          ∙ ap (λ q. then_told (told q Open) (bytes_of (at_end m p.kept e))) r.0
+          ∙ ap (λ q. then_told (told (concat xs) Open) q) f.0
+          ∙ ap (λ q. told q e) (append-nil (concat xs)),
+      verdict_bytes SomeBytes unhex_byte (λ k. odd_end k k.rest) nothing_kept (map encode_lower xs) e
+          ∙ ap (λ q. or_else (each_byte unhex_byte nothing_kept q).ending (end_verdict m (each_byte unhex_byte nothing_kept q).kept e)) (concat_encoded xs)
+          ∙ ap (λ q. or_else q (end_verdict m p.kept e)) r.1
+          ∙ f.1,
+    )

@@ -1,18 +1,19 @@
 -- `unframe`: each frame is read.
-use Rattle.std.proofs.Common.{◌≡◌, inr, ℕ, suc, ◌+◌, ◌-◌, ◌/◌, ◌%◌, ◌<◌, ◌≤◌, ℤ, pos, nat_abs, Bool, true, false, nat_eq, nat_lt, List, [], ◌∷◌, ◌++◌, length, map, append_assoc, append-nil, length-append, refl, sym, ap, ◌∙◌, subst, arith}
+use Rattle.std.proofs.Common.{◌≡◌, inr, ℕ, suc, ◌+◌, ◌-◌, ◌/◌, ◌%◌, ◌<◌, ◌≤◌, ℤ, pos, nat_abs, Bool, true, false, nat_eq, nat_lt, List, [], ◌∷◌, ◌++◌, length, map, append_assoc, append-nil, length-append, refl, sym, ap, ◌∙◌, subst, arith, add-zero}
 use Rattle.std.specs.Prelude.{if◌then◌else◌, codes}
 use Rattle.std.specs.List.{concat, All}
 use Rattle.std.proofs.lemmas.List.Elements.{All-nil, All-push}
 use Rattle.hex.specs.Hex.{encode_with}
 use Rattle.ws_flow.specs.declared.plan.Ending.TheVariants.{Fine, Bad}
 use Rattle.ws_flow.specs.declared.plan.Stage.TheVariants.{Hex, Unframe}
-use Rattle.ws_flow.specs.Told.{Closed, told}
-use Rattle.ws_flow.specs.Machines.{Kept, ending, pushed, nothing_kept, with_rest}
+use Rattle.ws_flow.specs.Told.{Mark, Open, Closed, Broken, Lost, told, then_told}
+use Rattle.ws_flow.specs.Machines.{Kept, ending, pushed, nothing_kept, with_rest, Pushed, mark_of, end_mark, at_end, more, or_else, end_verdict, verdict, added, each_byte, AsCut, byte_machine}
 use Rattle.ws_flow.specs.Stages.{four_bytes, framed, frame_has, frame_met, unframe_byte, inside_end, IsPartOfFrame, FramesDone, TellsMore, FrameWrong, machine, machines, is_of_end}
 use Rattle.ws_flow.specs.Plans.{as_one, reach}
-use Rattle.ws_flow.proofs.Whole.{EachIs, StepSays, Stepwise, each_is_all, says_all}
+use Rattle.ws_flow.proofs.Whole.{EachIs, StepSays, Stepwise, each_is_all, says_all, each_cons, kept_of}
 use Rattle.ws_flow.proofs.Short.{EachShort, more_short, bytes_short, range_high}
 use Rattle.ws_flow.proofs.Kind.{NeverLate, each_never_late, IsKind}
+use Rattle.ws_flow.proofs.Cutting.{more_cut, verdict_bytes}
 
 four_lit : (a b c d n : ℕ) → a < 256 → b < 256 → c < 256 → d < 256 → n ≡ four_bytes a b c d →
     (n / 16777216 % 256 ≡ a) × (n / 65536 % 256 ≡ b) × (n / 256 % 256 ≡ c) × (n % 256 ≡ d)
@@ -209,3 +210,109 @@ end_inside_a_length = refl
 empty_frame : reach (Unframe (pos 4) ∷ Hex ∷ []) (0 ∷ 0 ∷ 0 ∷ 0 ∷ 0 ∷ 0 ∷ 0 ∷ 1 ∷ 171 ∷ []) Closed ≡ told ([] ∷ codes "ab" ∷ []) Closed
 unfolding encode_with
 empty_frame = refl
+
+-- of `frame` it is the chunks
+
+abbrev gives : List (List ℕ) → Pushed → Pushed
+gives cs r = added cs Fine nothing_kept r
+
+has_full : (most : ℕ) (k : Kept) (n : ℕ) (r : List ℕ) → n ≤ most → length r ≡ n → frame_has most k n r ≡ pushed (record k { rest = [] }) (r ∷ []) Fine
+has_full most k n r h e = by (nat_lt most n) (nat_eq (length r) n) refl refl where
+  by : (x y : Bool) → nat_lt most n ≡ x → nat_eq (length r) n ≡ y → (if x then pushed k [] (Bad 4 (k.bytes - 4)) else if y then pushed (record k { rest = [] }) (r ∷ []) Fine else pushed k [] Fine) ≡ pushed (record k { rest = [] }) (r ∷ []) Fine
+  by true y f g = absurd (no most n h f) where
+    no : (most n : ℕ) → n ≤ most → nat_lt most n ≡ true → ⊥
+    no most n h f = grind arith
+  by false true f g = refl
+  by false false f g = absurd (no (length r) n e g) where
+    no : (l n : ℕ) → l ≡ n → nat_eq l n ≡ false → ⊥
+    no l n e g = grind arith
+
+has_part : (most : ℕ) (k : Kept) (n : ℕ) (r : List ℕ) → n ≤ most → length r < n → frame_has most k n r ≡ pushed k [] Fine
+has_part most k n r h e = by (nat_lt most n) (nat_eq (length r) n) refl refl where
+  by : (x y : Bool) → nat_lt most n ≡ x → nat_eq (length r) n ≡ y → (if x then pushed k [] (Bad 4 (k.bytes - 4)) else if y then pushed (record k { rest = [] }) (r ∷ []) Fine else pushed k [] Fine) ≡ pushed k [] Fine
+  by true y f g = absurd (no most n h f) where
+    no : (most n : ℕ) → n ≤ most → nat_lt most n ≡ true → ⊥
+    no most n h f = grind arith
+  by false true f g = absurd (no (length r) n e g) where
+    no : (l n : ℕ) → l < n → nat_eq l n ≡ true → ⊥
+    no l n e g = grind arith
+  by false false f g = refl
+
+in_frame : (most a b c d : ℕ) (r : List ℕ) (x : ℕ) (s : List ℕ) (bs : List ℕ) (y n : ℕ) → four_bytes a b c d ≤ most → length r + suc (length s) ≡ four_bytes a b c d →
+    each_byte (unframe_byte most) (kept_of (a ∷ b ∷ c ∷ d ∷ r) y n) (x ∷ (s ++ bs)) ≡ gives ((r ++ x ∷ s) ∷ []) (each_byte (unframe_byte most) (kept_of [] (y + suc (length s)) n) bs)
+in_frame most a b c d r x [] bs y n h e =
+    each_cons (unframe_byte most) (kept_of (a ∷ b ∷ c ∷ d ∷ r) y n) x bs (pushed (kept_of [] (y + 1) n) ((r ++ x ∷ []) ∷ []) Fine)
+    (has_full most (kept_of (a ∷ b ∷ c ∷ d ∷ (r ++ x ∷ [])) (y + 1) n) (four_bytes a b c d) (r ++ x ∷ []) h (length-append r (x ∷ []) ∙ e))
+in_frame most a b c d r x (z ∷ s) bs y n h e =
+    each_cons (unframe_byte most) (kept_of (a ∷ b ∷ c ∷ d ∷ r) y n) x (z ∷ (s ++ bs)) (pushed (kept_of (a ∷ b ∷ c ∷ d ∷ (r ++ x ∷ [])) (y + 1) n) [] Fine)
+    (has_part most (kept_of (a ∷ b ∷ c ∷ d ∷ (r ++ x ∷ [])) (y + 1) n) (four_bytes a b c d) (r ++ x ∷ []) h (fewer (length (r ++ x ∷ [])) (length r) (length s) (four_bytes a b c d) (length-append r (x ∷ [])) e))
+    ∙ in_frame most a b c d (r ++ x ∷ []) z s bs (y + 1) n h (as_many (length (r ++ x ∷ [])) (length r) (length s) (four_bytes a b c d) (length-append r (x ∷ [])) e)
+    ∙ ap (λ q. gives (q ∷ []) (each_byte (unframe_byte most) (kept_of [] (y + 1 + suc (length s)) n) bs)) (append_assoc r (x ∷ []) (z ∷ s))
+    ∙ ap (λ q. gives ((r ++ x ∷ z ∷ s) ∷ []) (each_byte (unframe_byte most) (kept_of [] q n) bs)) (one_more_byte y (length s)) where
+      fewer : (l m s n : ℕ) → l ≡ m + 1 → m + suc (suc s) ≡ n → l < n
+      fewer l m s n e f = omega arith
+
+      as_many : (l m s n : ℕ) → l ≡ m + 1 → m + suc (suc s) ≡ n → l + suc s ≡ n
+      as_many l m s n e f = omega arith
+
+      one_more_byte : (y s : ℕ) → y + 1 + suc s ≡ y + suc (suc s)
+      one_more_byte y s = omega arith
+
+four_of : (l : ℕ) → l < 4294967296 → four_bytes (l / 16777216 % 256) (l / 65536 % 256) (l / 256 % 256) (l % 256) ≡ l
+four_of l h = omega arith
+
+-- the bytes of one frame, by its four bytes of length
+frame_by : (most : ℕ) (a b c d : ℕ) (s : List ℕ) (bs : List ℕ) (y n : ℕ) → four_bytes a b c d ≤ most → length s ≡ four_bytes a b c d →
+    each_byte (unframe_byte most) (kept_of [] y n) (a ∷ b ∷ c ∷ d ∷ (s ++ bs)) ≡ gives (s ∷ []) (each_byte (unframe_byte most) (kept_of [] (y + 1 + 1 + 1 + 1 + length s) n) bs)
+frame_by most a b c d [] bs y n h e =
+    each_cons (unframe_byte most) (kept_of (a ∷ b ∷ c ∷ []) (y + 1 + 1 + 1) n) d bs (pushed (kept_of [] (y + 1 + 1 + 1 + 1) n) ([] ∷ []) Fine)
+    (has_full most (kept_of (a ∷ b ∷ c ∷ d ∷ []) (y + 1 + 1 + 1 + 1) n) (four_bytes a b c d) [] h e)
+    ∙ ap (λ q. gives ([] ∷ []) (each_byte (unframe_byte most) (kept_of [] q n) bs)) (sym (add-zero (y + 1 + 1 + 1 + 1)))
+frame_by most a b c d (x ∷ s) bs y n h e =
+    each_cons (unframe_byte most) (kept_of (a ∷ b ∷ c ∷ []) (y + 1 + 1 + 1) n) d (x ∷ (s ++ bs)) (pushed (kept_of (a ∷ b ∷ c ∷ d ∷ []) (y + 1 + 1 + 1 + 1) n) [] Fine)
+    (has_part most (kept_of (a ∷ b ∷ c ∷ d ∷ []) (y + 1 + 1 + 1 + 1) n) (four_bytes a b c d) [] h (some (length s) (four_bytes a b c d) e))
+    ∙ in_frame most a b c d [] x s bs (y + 1 + 1 + 1 + 1) n h (all (length s) (four_bytes a b c d) e) where
+      some : (l n : ℕ) → suc l ≡ n → 0 < n
+      some l n e = omega arith
+
+      all : (l n : ℕ) → suc l ≡ n → 0 + suc l ≡ n
+      all l n e = omega arith
+
+frames_read : (most : ℕ) (y n : ℕ) (cs : List (List ℕ)) → most < 4294967296 → EachShort most cs →
+    ((each_byte (unframe_byte most) (kept_of [] y n) (concat (map framed cs))).chunks ≡ cs) × ((each_byte (unframe_byte most) (kept_of [] y n) (concat (map framed cs))).ending ≡ Fine) × ((each_byte (unframe_byte most) (kept_of [] y n) (concat (map framed cs))).kept.rest ≡ [])
+frames_read most y n [] w h = (refl, refl, refl)
+frames_read most y n (c ∷ cs) w (h, g) =
+    let l = length c in
+    let f = four_of l (below l most w h) in
+    let e = frame_by most (l / 16777216 % 256) (l / 65536 % 256) (l / 256 % 256) (l % 256) c (concat (map framed cs)) y n (within l most (four_bytes (l / 16777216 % 256) (l / 65536 % 256) (l / 256 % 256) (l % 256)) f h) (sym f) in
+    let r = frames_read most (y + 1 + 1 + 1 + 1 + l) n cs w g in
+    (ap (λ q. q.chunks) e ∙ ap (λ q. c ∷ q) r.0, ap (λ q. q.ending) e ∙ r.1, ap (λ q. q.kept.rest) e ∙ r.2) where
+      below : (l most : ℕ) → most < 4294967296 → l ≤ most → l < 4294967296
+      below l most w h = omega arith
+
+      within : (l most n : ℕ) → n ≡ l → l ≤ most → n ≤ most
+      within l most n e h = omega arith
+
+frames_end : (most : ℕ) (e : Mark) (k : Kept) → k.rest ≡ [] → (at_end (byte_machine AsCut (unframe_byte most) (λ k. inside_end k k.rest)) k e ≡ told [] e) × (end_verdict (byte_machine AsCut (unframe_byte most) (λ k. inside_end k k.rest)) k e ≡ Fine)
+frames_end most Open k h = (refl, refl)
+frames_end most Broken k h = (refl, refl)
+frames_end most Lost k h = (refl, refl)
+frames_end most Closed k h = (ap (λ q. told (inside_end k q).chunks (end_mark (inside_end k q).ending)) h, ap (λ q. (inside_end k q).ending) h)
+
+pub unframe_of_frame : (most : ℕ) (xs : List (List ℕ)) (e : Mark) → most < 4294967296 → EachShort most xs →
+    let m = byte_machine AsCut (unframe_byte most) (λ k. inside_end k k.rest) in
+    (more m nothing_kept (map framed xs) e ≡ told xs e) × (verdict m nothing_kept (map framed xs) e ≡ Fine)
+unframe_of_frame most xs e w h =
+    let m = byte_machine AsCut (unframe_byte most) (λ k. inside_end k k.rest) in
+    let p = each_byte (unframe_byte most) nothing_kept (concat (map framed xs)) in
+    let r = frames_read most 0 0 xs w h in
+    let f = frames_end most e p.kept r.2 in (
+      more_cut (unframe_byte most) (λ k. inside_end k k.rest) nothing_kept (map framed xs) e
+          ∙ ap (λ q. then_told (told p.chunks (mark_of q)) (at_end m p.kept e)) r.1
+          ∙ ap (λ q. then_told (told q Open) (at_end m p.kept e)) r.0
+          ∙ ap (λ q. then_told (told xs Open) q) f.0
+          ∙ ap (λ q. told q e) (append-nil xs),
+      verdict_bytes AsCut (unframe_byte most) (λ k. inside_end k k.rest) nothing_kept (map framed xs) e
+          ∙ ap (λ q. or_else q (end_verdict m p.kept e)) r.1
+          ∙ f.1,
+    )

@@ -20,7 +20,6 @@ pub mod Lines
 pub mod Blocks
 pub mod Digits
 pub mod Frames
-pub mod Backwards
 pub mod EachKind
 pub mod Starts
 pub mod Lengths

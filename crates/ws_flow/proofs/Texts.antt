@@ -2,7 +2,7 @@
 use Rattle.std.proofs.Common.{◌≡◌, ℕ, suc, ◌+◌, ◌≤◌, List, [], ◌∷◌, ◌++◌, length, add-zero, refl, sym, ap, ◌∙◌, subst, arith}
 use Rattle.std.specs.List.{concat}
 use Rattle.ws_flow.specs.declared.plan.Ending.TheVariants.{Fine}
-use Rattle.ws_flow.specs.Told.{Mark, Open, Closed, Lost, Told, told, then_told}
+use Rattle.ws_flow.specs.Told.{Mark, Open, Closed, Broken, Lost, Told, told, then_told}
 use Rattle.ws_flow.specs.Machines.{Kept, Pushed, mark_of, more, through, or_else, verdict, pushed, nothing_kept, one_byte, each_byte, One, byte_machine, no_more}
 use Rattle.ws_flow.proofs.Short.{EachShort}
 use Rattle.ws_flow.proofs.Kind.{NeverLate}
@@ -31,6 +31,7 @@ texts_through : {t : ℕ → ℕ → List ℕ} {text : ℕ → List ℕ → List
     (more (byte_machine One (text_byte t) no_more) (record { rest = []; bytes = y; chunks = n }) cs e ≡ told (texts y cs) e) × (verdict (byte_machine One (text_byte t) no_more) (record { rest = []; bytes = y; chunks = n }) cs e ≡ Fine)
 texts_through {t} {text} {texts} are y n [] Open = (ap (λ q. told q Open) (sym (are.no_chunk y)), refl)
 texts_through {t} {text} {texts} are y n [] Closed = (ap (λ q. told q Closed) (sym (are.no_chunk y)), refl)
+texts_through {t} {text} {texts} are y n [] Broken = (ap (λ q. told q Broken) (sym (are.no_chunk y)), refl)
 texts_through {t} {text} {texts} are y n [] Lost = (ap (λ q. told q Lost) (sym (are.no_chunk y)), refl)
 texts_through {t} {text} {texts} are y n (c ∷ cs) e =
     let p = each_byte (text_byte t) (record { rest = []; bytes = y; chunks = n }) c in

@@ -112,3 +112,10 @@ says_all Done Held Wrong P f w less begin input h =
     let p = each_byte f nothing_kept input in
     let r = each_says P Held Wrong f w input h begin in
     (says_less Held Done Wrong less input p.chunks p.kept.rest p.ending r.0, counted_fine p.ending p.kept (length input) r.1)
+
+-- a byte, and then the rest
+pub each_cons : (f : Kept → ℕ → Pushed) (k : Kept) (b : ℕ) (bs : List ℕ) (p : Pushed) → f k b ≡ p → each_byte f k (b ∷ bs) ≡ added p.chunks p.ending p.kept (each_byte f p.kept bs)
+each_cons f k b bs p h = ap (λ q. added q.chunks q.ending q.kept (each_byte f q.kept bs)) h
+
+abbrev pub kept_of : List ℕ → ℕ → ℕ → Kept
+kept_of rest y n = record { rest = rest; bytes = y; chunks = n }
