@@ -1,8 +1,8 @@
 #!/bin/sh
 # Sends 3,000,000 messages through one row, over a table (`ws_port`) and over a ruled queue (`ws_first_port`): between two threads, and
 # posted and taken in turn by one thread. Prints for each the median and the best of five runs, and the messages a second by the median.
-# The program, `bench/ports/main.rt`, is no crate of the gate: it is proved and built here, with the three crates that it stands on, in a
-# folder of its own. Word: how many runs.
+# The program, `bench/ports.rt.txt`, is no crate of the gate, which takes no other .rt file: it is proved and built here, with the three
+# crates that it stands on, in a folder of its own. Word: how many runs.
 set -eu
 root=$(CDPATH='' cd -- "$(dirname -- "$0")/.." && pwd)
 work=$(mktemp -d)
@@ -12,7 +12,7 @@ runs=${1:-5}
 
 mkdir -p "$work/crates/bench_ports/src"
 cp "$root/HANDLES" "$work"
-cp "$root/bench/ports/main.rt" "$work/crates/bench_ports/src"
+cp "$root/bench/ports.rt.txt" "$work/crates/bench_ports/src/main.rt"
 for crate in ws_value ws_port ws_first_port; do
     mkdir "$work/crates/$crate"
     for part in src specs proofs; do cp -R "$root/crates/$crate/$part" "$work/crates/$crate"; done
