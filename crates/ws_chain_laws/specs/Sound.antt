@@ -16,6 +16,5 @@ pub record IsSound (i j : StreamId) (p : PipeId) (s : Slots) : Type 0 where
   pub closes : (pipe_at p s).prevent.close ≡ false
   pub error : (pipe_at p s).error ≡ None
 
--- then nothing is lost of what is behind the host on it
 abbrev pub EachSoundLinkIsWhole : Type 0
 EachSoundLinkIsWhole = (i j : StreamId) (p : PipeId) (s : Slots) → IsLink i j p s → IsSound i j p s → (behind i j p s).mark ≢ Lost

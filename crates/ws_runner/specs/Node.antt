@@ -49,7 +49,7 @@ lost_by Ended = nothing_yet
 lost_by Failed = told [] Lost
 lost_by TooLong = told [] Lost
 
--- what comes behind a stage that is over: the end where it was flushed and ended fine, and nothing whole where it was bad
+-- what comes behind a stage that is over: the end where it was flushed and ended fine, and nothing more, none of it missing, where it was bad
 abbrev pub coming_behind : ℕ → List State → Told (List ℕ)
 coming_behind k [] = nothing_yet
 coming_behind zero (w ∷ ws) = coming_from w.work

@@ -1,5 +1,5 @@
--- What holds of a node between turns: its realm was led there by calls that leave its links alone, and by what its host knows. None of it but `IsOf` and a new
--- node speaks of a plan.
+-- What holds of a node between turns, by its shape and all that led to it: its links are wired, and its host knows what became of what they brought. None of it
+-- but `IsOf` and a new node speaks of a plan.
 use Rattle.std.specs.Prelude.{◌≡◌, ◌≢◌, ◌+◌, ◌<◌, ◌≤◌, ◌^◌, ℕ, Bool, true, not, ◌&&◌, List, [], ◌∷◌, ◌++◌, length, All, Option, Some, None, slice_get, option_map, nat_abs}
 use Rattle.ws_value.specs.declared.fault.Fault.{Fault}
 use Rattle.ws_value.specs.declared.fault.Fault.TheVariants.{TypeError, RangeError, DataClone, User, Read, Write, Stage, TooMuch, Abort, NoMemory}

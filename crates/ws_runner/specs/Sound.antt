@@ -15,8 +15,8 @@ use Rattle.ws_runner.specs.Flow.{HasGone}
 use Rattle.ws_runner.specs.Node.{lost_by, lying, nothing_yet, parts}
 use Rattle.ws_runner.specs.Past.{Driven}
 
--- Of none of its links an end has failed or the pipe has an error; no call of its input or output has failed, and neither the limit of the run nor
--- its abort was reached; and memory wasn't wanting
+-- of none of its links an end has failed, and no pipe has an error or prevents the close; no call of its input or output has failed, no more was read than
+-- the run may take, and nothing came to be written behind the place of its abort; and its realm goes on
 pub record IsSoundNode (n : Node) : Type 0 where
   pub links : (k : ℕ) → k ≤ length n.stages.items → IsSound (source_of k) (dest_of k) (link_of k) n.realm.slots
   pub input : lost_by n.input ≡ nothing_yet
@@ -24,7 +24,6 @@ pub record IsSoundNode (n : Node) : Type 0 where
   pub output_unaborted : n.output ≢ output.Aborted
   pub going : n.stopped ≡ None
 
--- what went out of it, and then what lies in it, through the stages that this hasn't passed, is all that its stages make of what was read
 abbrev pub EachSoundNodeIsWhole : Type 0
 EachSoundNodeIsWhole =
     (plan : Plan) (n : Node) (old new : Moment) (read went : Told (List ℕ)) (gain : List ℕ) (out : Mark)
