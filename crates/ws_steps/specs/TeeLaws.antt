@@ -35,7 +35,7 @@ EachTeeHandsToBoth =
     (entries : List Entry) (t : TeeId) → let s : Slots = run entries empty in let x : tee.Slots = tee_at t s in has_tee t s ≡ true
     → IsTeed (run_teed t entries empty) (run_flow x.branch1 entries empty) (run_flow x.branch2 entries empty) x
 
--- the source of a tee is cancelled once both its branches are, with the pair of their reasons
+-- the reasons of the cancels of a tee's source, by those that the tee keeps of its branches
 abbrev pub cancels_of : TeeId → tee.Slots → List Plain
 cancels_of t x = if tee.is_wanted x then [] else Pair t ∷ []
 
