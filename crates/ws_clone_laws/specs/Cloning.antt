@@ -1,4 +1,4 @@
--- Every reason in a node of a pipeline is that of a failure: no DataCloneError comes of its ports.
+-- The reasons in a node of a pipeline, and what can be cloned of what is given to it.
 use Rattle.std.specs.Prelude.{ℕ, ◌+◌, ◌*◌, ◌≤◌, ◌≡◌, Bool, true, ◌||◌, List, [], ◌∷◌, ◌++◌, Some, Contains}
 use Rattle.ws_value.specs.declared.ids.PortId.{PortId}
 use Rattle.ws_value.specs.declared.ids.StreamId.{StreamId}

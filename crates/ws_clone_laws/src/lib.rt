@@ -1,4 +1,4 @@
-//! Laws of the reasons in a node of a pipeline: no DataCloneError comes of its ports.
+//! Laws of the reasons in a node of a pipeline, where all that is given to it can be cloned.
 #![tactic(auto)]
 
 ghost use Rattle.ws_clone_laws.specs.Cloning.{EachNodeClones, EachNodeErrorIsOlder};

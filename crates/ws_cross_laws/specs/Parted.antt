@@ -1,4 +1,4 @@
--- A port with a readable end posts an error only as its stream is cancelled.
+-- When a port with a readable end posts an error.
 use Rattle.std.specs.Prelude.{◌≡◌, true, false, List}
 use Rattle.ws_value.specs.declared.ids.PortId.{PortId}
 use Rattle.ws_steps.specs.declared.port.Side.TheVariants.{Readable as ReadableSide}

@@ -1,4 +1,4 @@
--- What a port posts can be sent.
+-- Which messages can be sent.
 use Rattle.std.specs.Prelude.{◌≡◌, Bool, true, List, All}
 use Rattle.ws_value.specs.declared.ids.PortId.{PortId}
 use Rattle.ws_value.specs.declared.value.Message.{Message}

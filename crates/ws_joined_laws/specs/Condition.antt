@@ -1,6 +1,5 @@
 -- A node keeps its flow under one condition: each chunk that it received is bytes, fewer than 2^25 of them. `KeepsIf` says so of a node, and
--- `ChainedIf` of a chain whose first node reads the input, in pieces of at most 4,096 bytes, and so needs no condition. The law is that in such a
--- chain, where the stages are those of a plan that isn't refused, each node meets the condition, so that each keeps its flow.
+-- `ChainedIf` of a chain whose first node reads the input, in pieces of at most 4,096 bytes, and so needs no condition.
 use Rattle.std.specs.Prelude.{◌≡◌, ℕ, ◌<◌, ◌≤◌, Bool, true, false, List, [], ◌∷◌, ◌++◌, length}
 use Rattle.std.specs.List.{All, count_by, list_all}
 use Rattle.ws_value.specs.declared.value.Message.{Message}

@@ -1,7 +1,5 @@
 -- A run over any number of nodes that are joined in a chain, whatever the order of their turns: it speaks only of what they took, sent and
--- received. Each node keeps its flow, and each reason with which one ends what comes behind it has its cause (`IsJoined`). Then what the output got
--- is a first part of what all stages make of the bytes that were taken, and all of it where the output was finished; and each reason with which the
--- pipe into the sink was rejected has its cause in one of the nodes (`JoinedEnds`). Of one node: where it tells an end, it told all (`TellsAll`).
+-- received (`IsJoined`), how it ends (`JoinedEnds`), and what one node has told (`TellsAll`).
 use Rattle.std.specs.Prelude.{◌≡◌, ℕ, ◌+◌, ◌-◌, ◌≤◌, Bool, true, false, List, [], ◌∷◌, ◌++◌, All, length, map}
 use Rattle.ws_value.specs.declared.fault.Fault.{Fault}
 use Rattle.ws_value.specs.declared.fault.Fault.TheVariants.{TypeError, RangeError, DataClone, User, Read, Write, Stage, TooMuch, Abort, NoMemory}

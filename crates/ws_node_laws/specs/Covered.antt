@@ -1,4 +1,4 @@
--- The readable end of a port that is the source of a link asks for no more chunks than come, and one.
+-- How many chunks the readable end of a port that is the source of a link asks for.
 use Rattle.std.specs.Prelude.{◌≡◌, ℕ, ◌+◌, ◌*◌, ◌≤◌, Bool, true, not, if◌then◌else◌, List, [], ◌∷◌, length}
 use Rattle.ws_value.specs.declared.ids.PipeId.{PipeId}
 use Rattle.ws_value.specs.declared.ids.PortId.{PortId}

@@ -1,4 +1,4 @@
--- What a row tells, by its messages, is what a link whose end is that of a port hears and is brought.
+-- What a row tells, by its messages, and what a link whose end is that of a port hears and is brought.
 use Rattle.std.specs.Prelude.{◌≡◌, ℕ, Bool, true, false, ◌&&◌, if◌then◌else◌, List, [], ◌∷◌, ◌++◌}
 use Rattle.ws_value.specs.declared.ids.PortId.{PortId}
 use Rattle.ws_value.specs.declared.value.Message.{Message}

@@ -1,6 +1,4 @@
--- Where the reason of an error comes from that a writable end of a port posts. It is one of the origins of reasons of the run: that of a failure,
--- one that a call brought through a transform stream or into a byte stream, or, a DataCloneError, one of the ports. And once an error was
--- delivered to that end, it is one of those that the run had before the delivery.
+-- Where the reason of an error comes from that a writable end of a port posts.
 use Rattle.std.specs.Prelude.{◌≡◌, true, List, ◌∷◌, ◌++◌, Contains}
 use Rattle.ws_value.specs.declared.ids.PortId.{PortId}
 use Rattle.ws_value.specs.declared.value.Message.{Message}

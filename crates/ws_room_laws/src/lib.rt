@@ -1,4 +1,4 @@
-//! Laws of what effects take: they come to an end, and the room that is told beforehand is enough.
+//! Laws of what effects take: how they come to an end, and how much room they need.
 #![tactic(auto)]
 
 ghost use Rattle.ws_steps.specs.Laws.{EffectsEndOnce, RoomIsEnough};

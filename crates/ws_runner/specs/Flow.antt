@@ -43,7 +43,7 @@ pub record KeepsFlow (plan : Plan) (n : Node) (read went : Told (List ℕ)) (gai
   -- a stage that is bad is so over what was read
   pub bad : (index code place : ℕ) → EndedAs index code place n.stages.items → IsBad plan index code place read.mark (concat read.items)
 
--- One going after another is one, and doing nothing is one: `got` tells for what lists each output stands
+-- `got` tells for what lists each output stands
 abbrev pub EachGoesOn : {K : Type 0} → (K → List ℕ → Type 0) → Type 0
 EachGoesOn {K} got =
     ((a : Node) (m : Moment) (k : K) → Went a a m m (got k) (got k))

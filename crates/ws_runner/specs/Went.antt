@@ -1,4 +1,4 @@
--- How a node goes on, and what it read and wrote meanwhile. One going after another is one.
+-- How a node goes on, and what it read and wrote meanwhile.
 use Rattle.std.specs.Prelude.{◌≡◌, ◌≢◌, ◌+◌, ◌<◌, ◌≤◌, ◌^◌, ℕ, List, [], ◌∷◌, ◌++◌, All, length, Option, Some, None}
 use Rattle.std.specs.List.{concat}
 use Rattle.ws_flow.specs.Told.{bytes_of, Mark, Open as MayCome, Closed, Lost, Told, told, IsShortOf}

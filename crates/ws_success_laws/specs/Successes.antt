@@ -62,7 +62,6 @@ EachFulfilledPipeWroteAllItRead =
     → (x.prevent.close ≡ false) ⊎ (AllMoments (FindsItUnfailing p) (run_moments entries empty) ⊎ (is_failing (writable_at x.dest s).state ≡ false))
     → IsPassedOn (run_through p entries empty) × AllFulfilled s.promises (promises_made p (run_moments entries empty))
 
--- an action that has begun, or an end, without an error, of a pipe that isn't to leave its destination open: that isn't writable any more, or it is closing
 abbrev pub EachUnfailingPipeCloses : Type 0
 EachUnfailingPipeCloses =
     (entries : List Entry) (p : PipeId) (x : pipe.Slots) → let s : Slots = run entries empty in

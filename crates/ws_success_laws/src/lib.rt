@@ -67,10 +67,10 @@ pub fn each_write_of_an_unfailing_pipe_succeeded()
 /// A fulfilled pipe has had all that it read written with success, unless it wasn't to close its destination, which
 /// was erroring or errored as the pipe ended.
 ///
-/// It passed on all that it read, and dropped nothing. The exception is the standard's: with `preventClose` a pipe waits
-/// until its writes have settled, and doesn't ask how (a worked example shows one that fulfils so). It is enough that
-/// the destination was neither erroring nor errored at the moment at which the pipe began its action or ended without
-/// one, or isn't so at the end of the run.
+/// It passed on all that it read, and dropped nothing. The exception is the standard's: with `preventClose` a pipe
+/// waits until its writes have settled, and doesn't ask how (a worked example shows one that fulfils so). It is enough
+/// that the destination was neither erroring nor errored at the moment at which the pipe began its action or ended
+/// without one, or isn't so at the end of the run.
 ///
 /// Of: pipes, closing must be propagated forward, shutdown with an action, finalize.
 pub fn each_fulfilled_pipe_wrote_all_it_read()

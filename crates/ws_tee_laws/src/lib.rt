@@ -1,7 +1,4 @@
 //! Laws of what tees do with their sources and branches, over every run.
-//!
-//! The reasons that a tee keeps stay, its branches are lawful streams of their own, which get what the source gave,
-//! and its source is cancelled once both are.
 #![tactic(auto)]
 
 ghost use Rattle.ws_steps.specs.TeeLaws.{EachBranchIsLawful, EachPairStays, EachSourceIsCancelledByBoth, EachTeeHandsToBoth};
