@@ -1,4 +1,4 @@
--- What a job brings to the links of a chain: nothing but the end that comes out of a transform stream whose flush the host settled well.
+-- What a job brings to the links of a chain (`each_end_was_flushed`).
 use Rattle.std.proofs.Common.{◌≡◌, ℕ, suc, ◌≤◌, nat_eq, Bool, true, false, List, Option, Some, None, Ok, refl, sym, ap, subst, ◌∙◌, arith}
 use Rattle.ws_value.specs.declared.ids.PromiseId.{PromiseId}
 use Rattle.ws_value.specs.declared.ids.StreamId.{StreamId}

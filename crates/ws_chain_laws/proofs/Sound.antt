@@ -1,4 +1,4 @@
--- Of a link of which nothing failed nothing is lost: once its pipe passes nothing on any more, its destination is closing or closed.
+-- A link of which nothing failed (`each_sound_link_is_whole`): once its pipe passes nothing on any more, its destination is closing or closed.
 use Rattle.std.proofs.Common.{if◌then◌else◌, slice_get, ◌≡◌, ◌≢◌, Bool, true, false, not, ◌&&◌, ◌||◌, is_some, List, [], ◌∷◌, Option, Some, None, refl, sym, ap, subst, ◌∙◌, arith}
 use Rattle.ws_value.specs.declared.ids.PipeId.{PipeId}
 use Rattle.ws_value.specs.declared.ids.PromiseId.{PromiseId}

@@ -30,9 +30,7 @@ pub record IsClosedWell (n : ℕ) (entries : List Entry) : Type 0 where
   pub closed : (writable_at (dest_of n) (run entries empty)).state ≡ WritableClosed
   pub settled : WasSettledWell entries (Close (dest_of n))
 
--- After the opening of a chain and these calls, jobs and events: the promises of its pipes stay theirs, and are watched. Where nothing came through a
--- transform stream, that of the last pipe is rejected only with a reason that a call gave by which something fails; but with a pair of reasons also
--- where there is a tee, and with a DataCloneError where there is a port. Where it is fulfilled and goes to a sink of the host's, that closed well
+-- after the opening of a chain and these calls, jobs and events, the promises of its pipes, and that of the last one
 pub record ChainEnds (origin : Origin) (target : Target) (n : ℕ) (signalled : Bool) (xs : List Entry) : Type 0 where
   pub slots : run (past_of origin target n signalled xs) empty ≡ run xs (chained origin target n signalled)
   pub pipes : (k : ℕ) → k ≤ n → promise_of k (run (past_of origin target n signalled xs) empty) ≡ promise_of k (chained origin target n signalled)

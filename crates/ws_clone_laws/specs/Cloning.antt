@@ -47,8 +47,7 @@ AllBringClones (Called c ∷ xs) = BringsClones c × AllBringClones xs
 AllBringClones (Worked ∷ xs) = AllBringClones xs
 AllBringClones (Heard ∷ xs) = AllBringClones xs
 
--- After the opening of a chain and these calls, jobs and events, each of these is the reason of a failure among them: that with which the last pipe's
--- promise is rejected, the error that a stream has stored, and that of an error that a port posts
+-- the reasons in a node, after the opening of a chain and these calls, jobs and events
 pub record ReasonsAreFailures (origin : Origin) (target : Target) (n : ℕ) (signalled : Bool) (xs : List Entry) : Type 0 where
   pub rejected : (r : Plain) → outcome_at (run (past_of origin target n signalled xs) empty).promises (last_promise origin target n signalled) ≡ Some (Rejected r) → Contains (failures xs) r
   pub readable : (i : StreamId) → let s : Slots = run (past_of origin target n signalled xs) empty in

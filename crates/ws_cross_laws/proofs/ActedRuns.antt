@@ -1,4 +1,4 @@
--- Over every run: what the stream at a writable end of a port acted on are the chunks that the port posted.
+-- Over every run: what the stream at a writable end of a port acted on, and what the port posted.
 use Rattle.std.proofs.Common.{◌≡◌, ℕ, zero, suc, ◌⊎◌, inl, inr, ⊎_elim, Bool, true, false, if◌then◌else◌, List, [], ◌∷◌, ◌++◌, map, Option, Some, None, slice_get, refl, sym, ap, subst, ◌∙◌, append-nil, append_assoc, arith}
 use Rattle.ws_value.specs.declared.ids.PortId.{PortId}
 use Rattle.ws_value.specs.declared.ids.PromiseId.{PromiseId}

@@ -1,4 +1,4 @@
--- A port with a writable end posts a close only as the close algorithm of its stream is performed.
+-- When a port with a writable end posts a close (`each_writable_end_posts_close_last`).
 use Rattle.std.specs.Prelude.{is_some}
 use Rattle.std.proofs.Common.{◌≡◌, ◌<◌, ℕ, ◌⊎◌, inl, inr, ⊎_elim, Bool, true, false, ◌||◌, if◌then◌else◌, List, [], ◌∷◌, ◌++◌, Option, Some, None, slice_get, refl, sym, ap, ◌∙◌, append-nil, append_assoc, arith}
 use Rattle.ws_value.specs.declared.ids.{PortId.{PortId}, PromiseId.{PromiseId}, StreamId.{StreamId}, PipeId.{PipeId}, TeeId.{TeeId}}

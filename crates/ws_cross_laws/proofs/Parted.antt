@@ -1,4 +1,4 @@
--- A port with a readable end posts an error only as the stream is cancelled: then the stream isn't readable any more.
+-- When a port with a readable end posts an error (`none_posts_an_error_while_readable`).
 use Rattle.std.specs.Prelude.{is_some}
 use Rattle.ws_steps.specs.declared.readable.ReadableState.TheVariants.{Readable}
 use Rattle.ws_cross_laws.specs.Parted.{NonePostsAnErrorWhileReadable}

@@ -1,4 +1,4 @@
--- Over every run: what a port posts can be cloned. A chunk is handed on to a port only where it can be, and what stands on the agenda for that
+-- What a port posts, over every run (`each_post_can_be_sent`). A chunk is handed on to a port only where it can be, and what stands on the agenda for that
 -- stands first.
 use Rattle.std.proofs.Common.{◌≡◌, Bool, true, false, if◌then◌else◌, List, [], ◌∷◌, ◌++◌, Option, Some, None, slice_get, refl, sym, ap, subst, append-nil, append_assoc, arith}
 use Rattle.std.specs.Prelude.{All}

@@ -1,4 +1,4 @@
--- The stream at a readable end of a port is asked to close, and closes without a cancel, only where a close came while the port was entangled.
+-- By what the stream at a readable end of a port closes (`each_readable_end_closes_by_message`).
 use Rattle.std.specs.Prelude.{is_some}
 use Rattle.std.proofs.Common.{◌≡◌, ◌⊎◌, inl, inr, ⊎_elim, Bool, true, false, ◌||◌, List, [], ◌∷◌, ◌++◌, Option, Some, None, slice_get, refl, sym, ap, subst, ◌∙◌, append-nil, append_assoc, arith, length}
 use Rattle.ws_value.specs.declared.ids.{PortId.{PortId}, StreamId.{StreamId}}

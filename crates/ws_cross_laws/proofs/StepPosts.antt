@@ -1,4 +1,4 @@
--- In every run, no call and no job posts more than one message by one port.
+-- How many messages a step posts by one port, in every run (`each_step_posts_once`).
 use Rattle.std.proofs.Common.{◌≡◌, ℕ, ◌+◌, ◌≤◌, Bool, true, false, if◌then◌else◌, List, [], ◌∷◌, ◌++◌, length, Option, Some, None, Result, ◌⊎◌, inl, inr, ⊎_elim, slice_get, refl, sym, ap, subst, arith}
 use Rattle.std.proofs.lemmas.List.{length-append}
 use Rattle.ws_value.specs.declared.ids.PortId.{PortId}

@@ -1,4 +1,4 @@
--- A pipe that may close its destination, and that ended without an error, has passed on all that it read.
+-- What a pipe passed on that may close its destination (`each_pipe_that_may_close_passed_all`, `each_fulfilled_pipe_passed_all_it_read`).
 use Rattle.std.proofs.Common.{◌≡◌, ◌⊎◌, inl, inr, false, List, [], ◌∷◌, ◌++◌, Option, Some, None, Result, Ok, Err, slice_get, refl, sym, ap, subst, ◌∙◌}
 use Rattle.ws_value.specs.declared.{ids.PipeId.{PipeId}, value.Plain.{Plain}}
 use Rattle.ws_steps.specs.declared.pipes.{Phase.{Phase}, Phase.TheVariants.{Flowing, Waiting, Acting, Over}}

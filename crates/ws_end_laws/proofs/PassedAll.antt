@@ -1,4 +1,4 @@
--- A pipe that ended without an error has passed on all that it read, unless it found its destination erroring or errored as it began its action.
+-- What a pipe passed on that ended without an error (`each_unfailing_pipe_passed_all`, `each_pipe_that_closed_passed_all`).
 use Rattle.std.proofs.Common.{◌≡◌, ◌⊎◌, inl, inr, ⊎_elim, Bool, true, false, List, [], ◌∷◌, ◌++◌, Option, Some, None, slice_get, refl, sym, ap, subst, ◌∙◌}
 use Rattle.ws_value.specs.declared.{ids.PipeId.{PipeId}, value.Plain.{Plain}, value.Value.{Value}}
 use Rattle.ws_steps.specs.declared.pipes.{Phase.{Phase}, Phase.TheVariants.{Flowing, Waiting, Acting, Over}}

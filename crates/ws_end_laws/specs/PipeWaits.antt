@@ -89,9 +89,7 @@ pub record KeepsItsParts (x : Slots) (t : Table) (b : Acts) : Type 0 where
   pub promises : NoneIsSettled t b.out.promises
   pub parts : ((b.slots.parts ≡ x.parts) × (b.slots.whole ≡ x.whole)) ⊎ BeginsBySignal x b.slots
 
--- What an operation does to the parts that a pipe waits for, and to the promise of them all. Where a part is fulfilled, one fewer is left; with the
--- last, the promise of all is fulfilled with undefined; with the first that is rejected, it is rejected with that reason; and where there are no
--- parts, it is fulfilled. Then the pipe has it no longer, so that nothing settles it again. No other operation settles a promise
+-- what an operation does to the parts that a pipe waits for, and to the promise of them all
 pub record CountsItsParts (me : PipeId) (ends : Ends) (x : Slots) (t : Table) : Type 0 where
   pub fulfilled : (v : Plain) → (x.parts ≤ 1 → ⊥) → pipe_operation me ends (PartSettled (Ok v)) (starting x t) ≡ leaving (record x { parts = x.parts - 1 }) t []
   pub last : (v : Plain) → x.parts ≤ 1 → pipe_operation me ends (PartSettled (Ok v)) (starting x t) ≡ all_settled (Ok Undefined) (record x { parts = 0 }) t

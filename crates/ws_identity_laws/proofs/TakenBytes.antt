@@ -1,4 +1,4 @@
--- The chunks that a byte stream takes in are those of the calls that enqueue into it and are answered Done.
+-- The chunks that a byte stream takes in (`each_take_of_bytes_is_told`).
 use Rattle.std.proofs.Common.{◌≡◌, ℕ, Bool, true, false, not, ◌&&◌, if◌then◌else◌, List, [], ◌∷◌, ◌++◌, Option, Some, None, slice_get, refl, sym, ap, subst, ◌∙◌, arith, append_assoc, append-nil}
 use Rattle.ws_value.specs.declared.{ids.PipeId.{PipeId}, ids.StreamId.{StreamId}, value.Value.{Value}, value.Value.TheVariants.{Plain as PlainValue, Bytes}}
 use Rattle.ws_steps.specs.declared.byte.{ByteOperation.TheVariants.{Enqueue as EnqueueBytes}}

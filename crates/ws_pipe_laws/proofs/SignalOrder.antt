@@ -1,4 +1,4 @@
--- The pipes of a signal are those that were added and not forgotten, in the order in which they were added.
+-- The pipes of a signal, and their order (`each_signal_keeps_order`).
 use Rattle.std.proofs.Common.{◌≡◌, ◌⊎◌, inl, inr, ⊎_elim, ℕ, zero, suc, Bool, true, false, nat_eq, if◌then◌else◌, List, [], ◌∷◌, ◌++◌, Option, Some, None, slice_get, refl, sym, ap, subst, ◌∙◌, append_assoc, append-nil, arith}
 use Rattle.ws_value.specs.declared.{ids.PipeId.{PipeId}, ids.SignalId.{SignalId}, value.Plain.{Plain}}
 use Rattle.ws_steps.specs.declared.effects.Effect.{Effect}

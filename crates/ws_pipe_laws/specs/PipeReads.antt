@@ -115,8 +115,7 @@ abbrev pub one_if : Bool → ℕ
 one_if true = 1
 one_if false = 0
 
--- What was read was passed on, then dropped, or is held, in this order. While the pipe flows or waits, nothing was dropped; and at most one
--- chunk is ever dropped or still being read
+-- what was read, and what became of it
 pub record IsPassing (h : Through) (x : Slots) : Type 0 where
   pub all : h.read ≡ h.passed ++ (h.dropped ++ held_values x.held)
   pub live : is_live x.phase ≡ true → h.dropped ≡ []

@@ -1,4 +1,4 @@
--- Of a node of which nothing failed nothing is lost.
+-- A node of which nothing failed (`each_sound_node_is_whole`).
 use Rattle.std.proofs.Common.{◌≡◌, ◌≢◌, ℕ, zero, suc, ◌+◌, ◌≤◌, List, [], ◌∷◌, length, map, Option, None, refl, sym, ap, subst, ◌∙◌, arith}
 use Rattle.ws_value.specs.declared.value.Value.{Value}
 use Rattle.ws_flow.specs.declared.plan.Ending.{Ending}

@@ -29,18 +29,14 @@ pub record HasGone (plan : Plan) (n : Node) (old new : Moment) (read went : Told
   pub output : OutputGoes from.output n.output gain out old new
   pub abort : AbortGoes from.abort n.abort went.items gain n.output
 
--- So what went out stands to what was read
+-- how what went out stands to what was read
 pub record KeepsFlow (plan : Plan) (n : Node) (read went : Told (List ℕ)) (gain : List ℕ) (out : Mark) : Type 0 where
-  -- what went out is a first part of what the stages make of the pieces that were read, and what the output gained is one in bytes
   pub first : IsBefore went (all_through (machines (stages_of plan)) read)
   pub gained : IsBefore (told gain out) (out_of plan (concat read.items) read.mark)
-  -- while nothing was lost, what went out and what lies in the node, through the stages that it hasn't passed, is all of it
   pub whole : (then_told (then_told went (lying n)) (residual (machines (stages_of plan)) (parts n))).mark ≢ Lost
       → then_told (then_told went (lying n)) (residual (machines (stages_of plan)) (parts n)) ≡ all_through (machines (stages_of plan)) read
   pub finished : n.output ≡ output.Finished → (read.mark ≡ Closed) × IsWhole plan (concat read.items) gain
-  -- before the chunk that holds its last byte the output had fewer bytes than the abort names
   pub near : (after : ℤ) → plan.abort_after ≡ Some after → 0 < length gain → StopsAt (nat_abs after) went.items gain
-  -- a stage that is bad is so over what was read
   pub bad : (index code place : ℕ) → EndedAs index code place n.stages.items → IsBad plan index code place read.mark (concat read.items)
 
 -- `got` tells for what lists each output stands

@@ -1,4 +1,4 @@
--- A pipe that was to close its destination, and has no error, has closed it as it begins its action, or else it had failed.
+-- How a pipe without an error leaves a destination that it was to close (`each_unfailing_pipe_closes`).
 use Rattle.std.proofs.Common.{◌≡◌, Bool, true, false, not, ◌&&◌, ◌⊎◌, inl, inr, nat_eq, ℕ, zero, suc, List, [], ◌∷◌, ◌++◌, Option, Some, None, Result, Ok, Err, slice_get, refl, sym, ap, subst, ◌∙◌, arith, if◌then◌else◌}
 use Rattle.ws_value.specs.declared.ids.PipeId.{PipeId}
 use Rattle.ws_value.specs.declared.ids.PromiseId.{PromiseId}

@@ -52,9 +52,7 @@ EachOutcomeHeardIsThePromises =
     (entries : List Entry) (p : PipeId)
     → AllSince (λ past m. (o : Result Plain Plain) → m.effect ≡ OnPipe p (ActionSettled o) → IsOutcome m.found.promises (promises_heard p past) o) [] (run_moments entries empty)
 
--- How a pipe ended that performed an action. There is one promise to which it reacted as to that of its action, and that has settled; the pipe shut down
--- once, with this action and this error; and its own promise is rejected with the reason of that promise where this is rejected, and else with the
--- error of the shutdown, and fulfilled with undefined where there is none
+-- how a pipe ended that performed an action
 pub record EndsAsItsAction (p : PipeId) (x : pipe.Slots) (entries : List Entry) : Type 0 where
   pub promise : PromiseId
   pub outcome : Result Plain Plain
@@ -102,8 +100,7 @@ pub data IsAnswered (p : PipeId) (x : pipe.Slots) (entries : List Entry) : Type 
   WithNoAction : x.action ≡ None → outcome_at (run entries empty).promises x.promise ≡ Some (outcome_of_end x.error) → IsAnswered p x entries
   ByItsAction : (action : Action) → x.action ≡ Some action → ActedFor p action (run_moments entries empty) → EndsAsItsAction p x entries → IsAnswered p x entries
 
--- From the first condition to the outcome of the promise, of a pipe that is over: where it shut down, and how its promise is answered. It is fulfilled
--- only where its source had closed as it shut down, and its shutdown has no error
+-- from the first condition to the outcome of the promise, of a pipe that is over
 pub record EndsAsItShutDown (p : PipeId) (x : pipe.Slots) (entries : List Entry) : Type 0 where
   pub shut : ShutDown p x (run_moments entries empty)
   pub answered : IsAnswered p x entries

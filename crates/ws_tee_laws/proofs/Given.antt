@@ -1,4 +1,4 @@
--- What the source of a tee gave was handed on, in its order, but for the chunk that the tee holds.
+-- What the source of a tee gave, and what of it was handed on.
 use Rattle.std.proofs.Common.{◌≡◌, ⊎_elim, ℕ, ◌+◌, ◌≤◌, Bool, true, false, not, ◌&&◌, nat_eq, if◌then◌else◌, List, [], ◌∷◌, ◌++◌, length, Option, Some, None, Ok, Err, slice_get, slice_set, refl, sym, ap, subst, ◌∙◌, append_assoc, append-nil, arith}
 use Rattle.ws_laws.proofs.PortDoes.{PortCauses}
 use Rattle.ws_value.specs.declared.ids.PortId.{PortId}

@@ -1,4 +1,4 @@
--- Over every run, the writable half of a transform stream of the host handed on the values of the events that call its transform algorithm.
+-- What the writable half of a transform stream of the host handed on, by the events that call its transform algorithm (`transforms_were_heard`).
 use Rattle.std.proofs.Common.{◌≡◌, ◌⊎◌, inl, inr, ⊎_elim, ℕ, zero, suc, ◌+◌, List, [], ◌∷◌, ◌++◌, length, map, Option, Some, None, slice_get, refl, sym, ap, ◌∙◌, arith, append_assoc, append-nil}
 use Rattle.ws_value.specs.declared.ids.{StreamId.{StreamId}}
 use Rattle.ws_value.specs.declared.value.Value.{Value}

@@ -1,4 +1,4 @@
--- Over every run, the chunks that the writable half of a transform stream handed on are those with which its transform algorithm was performed.
+-- What the writable half of a transform stream handed on, and with what its transform algorithm was performed (`each_acted_is_transformed`).
 use Rattle.std.proofs.Common.{◌≡◌, ⊎_elim, ℕ, zero, suc, ◌+◌, false, List, [], ◌∷◌, ◌++◌, length, map, Option, Some, None, slice_get, refl, sym, ap, ◌∙◌, arith, append_assoc, append-nil}
 use Rattle.ws_value.specs.declared.ids.{StreamId.{StreamId}}
 use Rattle.ws_value.specs.declared.value.Value.{Value}

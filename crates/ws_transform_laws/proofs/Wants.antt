@@ -1,4 +1,4 @@
--- In each step, a chunk is transformed only where the readable half wants one, but where a write goes on that waited, though there is backpressure.
+-- What is wanted as a chunk is transformed, step by step (`each_chunk_is_wanted`, `each_chunk_is_read`).
 use Rattle.std.proofs.Common.{◌≡◌, inl, inr, ℕ, Bool, true, false, ◌&&◌, if◌then◌else◌, nat_eq, not, ◌||◌, nat_lt, map, List, [], ◌∷◌, ◌++◌, Option, Some, None, slice_get, refl, sym, subst, ap, ◌∙◌, arith, append_assoc, append-nil}
 use Rattle.ws_value.specs.declared.{ids.StreamId.{StreamId}, value.Value.{Value}}
 use Rattle.ws_steps.specs.declared.calls.{Call.{Call}, Reply.{Reply}, Reply.TheVariants.{Promise}}

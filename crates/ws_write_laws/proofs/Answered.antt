@@ -1,5 +1,4 @@
--- What is written to a stream is what calls and pipes write, and the promises of these writes are those that the calls answered and those
--- that the pipes made: nothing else causes a write.
+-- What is written to a stream, and who writes it: nothing but calls and pipes causes a write (`writes_were_answered`).
 use Rattle.std.proofs.Common.{◌≡◌, Bool, true, false, List, [], ◌∷◌, ◌++◌, Option, Some, None, Result, Ok, Err, if◌then◌else◌, refl, sym, ap, ◌∙◌, append_assoc, append-nil, arith}
 use Rattle.std.proofs.lemmas.Bool.{false≢true}
 use Rattle.std.specs.Prelude.{slice_get}
