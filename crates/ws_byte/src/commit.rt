@@ -50,7 +50,7 @@ pub fn commit(
     }
 }
 
-/// Commits all that are ready, in order.
+/// Commits all descriptors that are ready, in order.
 pub fn commit_all(
     stream: &mut Readable,
     queue: &mut ByteQueue,

@@ -16,7 +16,7 @@ use ws_steps::{
 use ws_tables::Tables;
 use ws_value::{PipeId, Plain, PromiseId, StreamId};
 
-/// The one effect of such a job.
+/// The effect of a job that has one alone.
 #[derive(Clone, Copy)]
 pub(crate) enum First {
     /// The pull algorithm of a readable stream has ended.

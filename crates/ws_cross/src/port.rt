@@ -45,14 +45,14 @@ impl Port {
         }
     }
 
-    /// The stream at this end.
+    /// The stream at the port's end.
     pub fn stream(&self) -> StreamId
         ensures { result ≡ self.now.stream }
     {
         self.stream
     }
 
-    /// Whether it is entangled.
+    /// Whether the port is entangled.
     pub fn is_live(&self) -> bool
         ensures { result ≡ self.now.live }
     {

@@ -84,7 +84,7 @@ impl Pipe {
         }
     }
 
-    /// The readable stream that it reads.
+    /// The readable stream that the pipe reads.
     pub fn source(&self) -> StreamId
         ensures { result ≡ self.now.source }
     {

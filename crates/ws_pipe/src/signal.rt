@@ -100,14 +100,14 @@ impl Signal {
         self.pipes.push_reserved(pipe);
     }
 
-    /// A pipe is over.
+    /// Forgets a pipe, which is over.
     pub fn forget(&mut self, pipe: PipeId)
         ensures { self.new ≡ record self.old { signal = (rows.forget_pipe pipe self.old.signal).signal } }
     {
         self.pipes.retain(|member| pipe.0 != member.0);
     }
 
-    /// Aborts its pipes in order, where it wasn't triggered before.
+    /// Aborts the signal's pipes in order, where it wasn't triggered before.
     pub fn trigger(&mut self, fx: &mut Agenda, reason: Plain)
         requires effect_room { HasEffectRoom (aborts_of self.old.signal) fx.old }
         ensures signal { self.new ≡ record self.old { signal = (rows.trigger reason self.old.signal).signal } }

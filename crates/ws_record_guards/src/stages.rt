@@ -21,7 +21,7 @@ pub fn make(alloc: Global, stage: &Stage) -> Result<Work, NoMemory>
     Work::make(alloc, stage)
 }
 
-/// Whether it may be asked for more.
+/// Whether the stage may be asked for more.
 pub fn is_live(work: &Work) -> bool
     ensures { result ≡ is_live work.now.work }
 {

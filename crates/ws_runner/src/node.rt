@@ -97,7 +97,7 @@ impl Node {
         }
     }
 
-    /// What the host was asked is done.
+    /// Tells the realm that what the host was asked is done.
     pub fn settle(&mut self, id: HostId)
         ensures { Asks (settles id) self.old self.new }
     {
@@ -227,7 +227,7 @@ impl Node {
 }
 
 impl Input {
-    /// Whether it may be read.
+    /// Whether the input may be read.
     pub fn is_open(self) -> bool
         ensures { result ≡ is_readable self }
     {
@@ -241,7 +241,7 @@ impl Input {
 }
 
 impl Output {
-    /// Whether it may be written and finished.
+    /// Whether the output may be written and finished.
     pub fn is_open(self) -> bool
         ensures { result ≡ is_writable self }
     {

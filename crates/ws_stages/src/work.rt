@@ -64,7 +64,7 @@ impl Work {
         })
     }
 
-    /// Whether it may be asked for more.
+    /// Whether the stage may be asked for more.
     pub fn is_live(&self) -> bool
         ensures { result ≡ is_live self.now.work }
     {

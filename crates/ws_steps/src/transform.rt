@@ -2,7 +2,7 @@
 use crate::{ReadableState, Use, WritableState};
 use ws_value::{Plain, PortId, PromiseId, Value};
 
-/// A transform stream. No call and no event names it; its halves are streams, with numbers of their own.
+/// The number of a transform stream. No call and no event names it; the halves are streams, with numbers of their own.
 #[derive(Clone, Copy)]
 pub struct TransformId(pub u32);
 

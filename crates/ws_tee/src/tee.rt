@@ -73,7 +73,7 @@ impl Tee {
         }
     }
 
-    /// The stream that it reads.
+    /// The stream that the tee reads.
     pub fn source(&self) -> StreamId
         ensures { result ≡ self.now.slots.source }
     {
