@@ -1,4 +1,4 @@
--- In every run a BYOB request of a readable byte stream stands for a descriptor, so what entered was accepted.
+-- The BYOB request of a readable byte stream, in every run, and what entered (`each_byte_stream_is_sound`, `entered_bytes_were_accepted`).
 use Rattle.std.proofs.Common.{◌≡◌, ◌≢◌, ℕ, Bool, true, false, List, [], ◌∷◌, ◌++◌, length, Option, Some, None, nat_eq, slice_get, refl, sym, ap, ◌∙◌, arith}
 use Rattle.ws_steps.specs.Descriptors.{Descriptor}
 use Rattle.ws_steps.specs.Promises.{Table}

@@ -1,4 +1,4 @@
--- The promise of a pipe is open until the pipe's end, and then has the outcome of that, over every run.
+-- The promise of a pipe and the pipe's end, over every run (`each_promise_is_open_until_the_end`, `each_outcome_tells_the_end`).
 use Rattle.std.proofs.Common.{◌≡◌, inl, inr, Bool, true, false, List, [], ◌∷◌, ◌++◌, Option, Some, None, slice_get, refl, sym, ap, subst, ◌∙◌}
 use Rattle.ws_value.specs.declared.{ids.PipeId.{PipeId}, ids.PromiseId.{PromiseId}}
 use Rattle.ws_value.specs.declared.value.{Outcome.{Outcome}, Outcome.TheVariants.{Pending, Fulfilled, Rejected}, Plain.{Plain}, Plain.TheVariants.{Undefined}}

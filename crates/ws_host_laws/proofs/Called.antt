@@ -1,4 +1,4 @@
--- The number of a host call is its place among the calls of the run, and each event that tells of one has its number.
+-- The numbers of host calls, and of the events that tell of them (`each_event_is_its_call`).
 use Rattle.std.proofs.Common.{◌≡◌, ℕ, zero, suc, List, [], ◌∷◌, ◌++◌, length, length-append, Option, Some, None, Result, slice_get, slice_set, refl, sym, ap, subst, ◌∙◌, arith, append_assoc, append-nil}
 use Rattle.ws_value.specs.declared.ids.HostId.{HostId}
 use Rattle.ws_value.specs.declared.ids.PromiseId.{PromiseId}

@@ -1,4 +1,4 @@
--- Each write of a pipe without preventClose whose promise is fulfilled is fulfilled, whatever the pipe's destination was as it was made.
+-- The writes of a pipe without preventClose whose promise is fulfilled (`each_write_of_a_fulfilled_pipe_succeeded`).
 use Rattle.std.proofs.Common.{◌≡◌, ℕ, Bool, true, false, not, ◌&&◌, List, [], ◌∷◌, ◌++◌, length, Option, Some, None, slice_get, refl, sym, ap, subst, ◌∙◌}
 use Rattle.std.proofs.lemmas.List.Elements.{All-nil}
 use Rattle.ws_value.specs.declared.{ids.PipeId.{PipeId}, ids.PromiseId.{PromiseId}}

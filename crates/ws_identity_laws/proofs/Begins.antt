@@ -1,4 +1,4 @@
--- A pipe between two streams that nobody has makes them a link.
+-- How a pipe makes two streams a link (`each_any_link_begins`).
 use Rattle.std.proofs.Common.{◌≡◌, ℕ, nat_eq, [], ◌∷◌, length, Option, Some, None, slice_get, refl, sym, ap, subst, ◌∙◌, arith}
 use Rattle.ws_value.specs.declared.ids.PipeId.{PipeId}
 use Rattle.ws_value.specs.declared.ids.SignalId.{SignalId}

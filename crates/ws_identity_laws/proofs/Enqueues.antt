@@ -1,4 +1,4 @@
--- What an identity transform stream enqueues by itself is what its writable half acts on, as long as its readable half can take something.
+-- What an identity transform stream enqueues by itself (`each_identity_enqueues`).
 use Rattle.std.proofs.Common.{◌≡◌, Bool, true, false, List, [], ◌∷◌, ◌++◌, slice_get, refl, sym, ap, subst, ◌∙◌, append_assoc, append-nil}
 use Rattle.ws_value.specs.declared.{ids.StreamId.{StreamId}, value.Value.{Value}}
 use Rattle.ws_steps.specs.declared.transform.{Kind.TheVariants.{Identity}, TransformId.{TransformId}}

@@ -1,4 +1,4 @@
--- Two streams that may be linked stay so in any run that leaves them alone.
+-- Two streams that may be linked, over runs that leave them alone (`each_any_free_pair_stays`).
 use Rattle.std.proofs.Common.{◌≡◌, suc, Bool, true, false, List, [], ◌∷◌, ◌++◌, length, Option, Some, None, slice_get, refl, sym, ap, subst, ◌∙◌, arith}
 use Rattle.ws_value.specs.declared.ids.PipeId.{PipeId}
 use Rattle.ws_value.specs.declared.ids.StreamId.{StreamId}

@@ -1,4 +1,4 @@
--- What the host hears at the end of a way is a first part of what it enqueued at its beginning.
+-- What the host hears at the end of a way (`each_way_is_heard`).
 use Rattle.std.proofs.Common.{◌≡◌, ℕ, zero, suc, ◌+◌, ◌<◌, Bool, true, false, slice_get, List, [], ◌∷◌, ◌++◌, refl, sym, ap, ◌∙◌, arith, append_assoc, append-nil}
 use Rattle.ws_value.specs.declared.{ids.PipeId.{PipeId}, ids.StreamId.{StreamId}}
 use Rattle.ws_value.specs.declared.value.Value.{Value}

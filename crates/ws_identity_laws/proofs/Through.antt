@@ -1,4 +1,4 @@
--- An identity transform stream passes on what its writable half acts on.
+-- One identity transform stream, from its writable half to its readable half (`each_identity_passes`).
 use Rattle.ws_laws.proofs.Ended.{run-ended}
 use Rattle.std.proofs.Common.{◌≡◌, ◌⊎◌, inl, inr, ℕ, zero, suc, ◌+◌, ◌<◌, Bool, true, false, List, [], ◌∷◌, ◌++◌, Option, Some, None, slice_get, refl, sym, ap, subst, ◌∙◌, arith, append_assoc, append-nil}
 use Rattle.ws_value.specs.declared.{ids.StreamId.{StreamId}, value.Value.{Value}}

@@ -1,4 +1,4 @@
--- A promise that has settled keeps its outcome over every run, and the mark of what went astray stays.
+-- The outcomes of promises, and the mark of what went astray, over every run (`each_outcome_stays`, `each_mark_stays`).
 use Rattle.std.proofs.Common.{◌≡◌, true, false, List, [], ◌∷◌, Some}
 use Rattle.ws_value.specs.declared.ids.PromiseId.{PromiseId}
 use Rattle.ws_value.specs.declared.value.Outcome.{Outcome}

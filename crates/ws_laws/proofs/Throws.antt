@@ -1,4 +1,4 @@
--- A call that throws changes nothing but the age.
+-- What a call that throws changes (`each_throw_changes_nothing`).
 use Rattle.std.proofs.Common.{◌≡◌, false, [], ◌∷◌, refl, ◌∙◌, ap}
 use Rattle.ws_value.specs.declared.ids.StreamId.{StreamId}
 use Rattle.ws_steps.specs.declared.{calls.Call.{Call}, calls.Call.TheVariants.{Finish}, calls.Reply.{Reply}, calls.Reply.TheVariants.{Done as ReplyDone, Throws}, effects.Effect.TheVariants.{Readable}, readable.ReadableOperation.TheVariants.{Close}, calls.Thrown.{Thrown}}

@@ -1,4 +1,4 @@
--- A pipe that isn't over has both its ends, and no call of the host has to do with them.
+-- Who has the ends of a pipe that isn't over (`each_pipe_owns_its_ends`, `no_two_pipes_share_an_end`).
 use Rattle.ws_steps.specs.declared.port.Side.{Side as PortSide}
 use Rattle.ws_steps.specs.declared.port.Side.TheVariants.{Readable as ReadableSide, Writable as WritableSide}
 use Rattle.ws_laws.proofs.Tables.{no_stream}

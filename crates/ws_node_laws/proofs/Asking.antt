@@ -1,4 +1,4 @@
--- A readable end of a port stays as it is in every run, and from the opening of a chain on it asks in turn.
+-- A readable end of a port, in every run and from the opening of a chain on (`each_end_stays_asking`, `each_node_asks_in_turn`).
 use Rattle.std.proofs.Common.{◌≡◌, ℕ, zero, suc, ◌+◌, ◌≤◌, Bool, true, false, not, ◌||◌, if◌then◌else◌, List, [], ◌∷◌, ◌++◌, map, Option, Some, None, slice_get, refl, sym, ap, subst, ◌∙◌, arith}
 use Rattle.ws_value.specs.declared.ids.PortId.{PortId}
 use Rattle.ws_value.specs.declared.ids.StreamId.{StreamId}

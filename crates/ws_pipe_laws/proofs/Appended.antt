@@ -1,4 +1,4 @@
--- What a pipe passes on is what its destination is written by it, unless the destination refuses it.
+-- What a pipe passes on, and what its destination is written by it (`each_pass_is_appended`).
 use Rattle.std.proofs.Common.{◌≡◌, Bool, true, false, ◌&&◌, nat_eq, if◌then◌else◌, List, [], ◌++◌, Option, Some, None, slice_get, refl, sym, append-nil, arith}
 use Rattle.ws_value.specs.declared.{ids.StreamId.{StreamId}, value.Value.{Value}}
 use Rattle.ws_steps.specs.declared.pipes.{Phase.{Phase}, Phase.TheVariants.{Flowing, Waiting, Acting, Over}}

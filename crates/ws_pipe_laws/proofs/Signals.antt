@@ -1,4 +1,4 @@
--- What the trigger of a signal causes, and that a signal keeps its reason.
+-- What the trigger of a signal causes, and its reason (`each_trigger_aborts_in_order`, `each_reason_stays`).
 use Rattle.ws_value.specs.declared.ids.PortId.{PortId}
 use Rattle.ws_steps.specs.Cross as cross
 use Rattle.ws_steps.specs.declared.port.PortOperation.{PortOperation}

@@ -1,4 +1,4 @@
--- What a pipe passes on are the writes that it causes.
+-- What a pipe passes on, and the writes that it causes (`each_pass_is_a_write`).
 use Rattle.std.proofs.Common.{◌≡◌, true, false, ◌&&◌, List, [], ◌∷◌, Option, Some, None, refl, arith}
 use Rattle.ws_value.specs.declared.{ids.PipeId.{PipeId}, value.Plain.{Plain}, value.Value.{Value}}
 use Rattle.ws_steps.specs.declared.effects.Effect.{Effect}

@@ -1,4 +1,4 @@
--- The reactions to a pipe's writes, with the jobs and the operations that they lead to, are at most its writes that haven't settled.
+-- The reactions to a pipe's writes, with the jobs and the operations that they lead to, beside its writes that haven't settled (`each_pipe_is_owed`).
 use Rattle.ws_steps.specs.declared.port.PortOperation.TheVariants.{PostChunk}
 use Rattle.std.proofs.Common.{◌≡◌, ℕ, zero, suc, ◌+◌, ◌≤◌, Bool, true, false, nat_eq, List, [], ◌∷◌, ◌++◌, Option, Some, None, Result, Err, slice_get, slice_set, refl, sym, ap, subst, arith}
 use Rattle.ws_value.specs.declared.ids.{PipeId.{PipeId}, PromiseId.{PromiseId}, SignalId.{SignalId}, StreamId.{StreamId}}

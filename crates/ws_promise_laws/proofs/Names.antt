@@ -1,5 +1,5 @@
 -- The promise that a reply names is there, in every run: a new one, one of a reader or a writer, or one that an abort was answered before.
--- So the promises that are watched are those that replies named.
+-- Which promises are watched follows (`each_name_stays`).
 use Rattle.std.proofs.Common.{◌≡◌, ℕ, ◌+◌, ◌≤◌, ◌<◌, zero, suc, Bool, true, false, not, ◌||◌, is_some, if◌then◌else◌, List, [], ◌∷◌, ◌++◌, length, Option, Some, None, slice_get, slice_set, refl, sym, ap, subst, ◌∙◌, arith}
 use Rattle.std.specs.Prelude.{◌&&◌, nat_eq}
 use Rattle.ws_steps.specs.Queues.{is_empty}

@@ -1,4 +1,4 @@
--- A read of a stream that has ended, or by a reader that was released, is answered within its call.
+-- Reads of a stream that has ended, and by a reader that was released (`reads_of_the_ended`).
 use Rattle.std.proofs.Common.{◌≡◌, true, false, List, [], ◌∷◌, ◌++◌, Some, None, Result, Err, slice_get, slice_set, Bool, refl, ap, ◌∙◌, arith}
 use Rattle.std.specs.Option.{option_map}
 use Rattle.ws_value.specs.declared.{ids.LockId.{LockId}, ids.PromiseId.{PromiseId}, ids.StreamId.{StreamId}}

@@ -1,5 +1,4 @@
--- What enters a readable stream that isn't a half of an identity transform, a branch of a tee or at the end of a port, is what calls that are answered Done enqueue: no other call, no
--- job and no effect causes an enqueue into it.
+-- What enters a readable stream, by the calls that enqueue (`entered_was_accepted`): no other call, no job and no effect causes an enqueue into it.
 use Rattle.ws_value.specs.declared.ids.PortId.{PortId}
 use Rattle.ws_steps.specs.declared.port.PortOperation.TheVariants as ports
 use Rattle.ws_steps.specs.declared.port.Side.{Side}

@@ -1,4 +1,4 @@
--- In every run, a read into a room is given what fills it, and is finished with whole elements.
+-- What a read into a room is given or finished with, in every run (`each_room_is_whole`).
 use Rattle.std.proofs.Common.{◌≡◌, ◌≤◌, ℕ, ◌*◌, not, ◌&&◌, nat_eq, List, [], ◌∷◌, length, Option, Some, None, slice_get, refl, ap, arith}
 use Rattle.std.specs.Option.{option_map}
 use Rattle.ws_value.specs.declared.ids.{LockId.{LockId}, PipeId.{PipeId}, PromiseId.{PromiseId}, StreamId.{StreamId}}

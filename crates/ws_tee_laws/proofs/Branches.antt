@@ -1,4 +1,4 @@
--- The branches of each tee are two readable streams that perform its algorithms, and lawful.
+-- The branches of each tee (`each_branch_is_lawful`).
 use Rattle.std.proofs.Common.{◌≡◌, ℕ, zero, suc, true, false, is_some, List, [], ◌∷◌, Option, Some, None, map, slice_get, refl}
 use Rattle.ws_value.specs.declared.ids.StreamId.{StreamId}
 use Rattle.ws_value.specs.declared.ids.TeeId.{TeeId}

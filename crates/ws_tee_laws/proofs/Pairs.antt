@@ -1,4 +1,4 @@
--- The two reasons that a tee keeps stay: a reason is kept only where there is none.
+-- The two reasons that a tee keeps (`each_pair_stays`): a reason is kept only where there is none.
 use Rattle.std.proofs.Common.{◌≡◌, ℕ, zero, suc, Bool, true, false, not, ◌&&◌, List, [], ◌∷◌, ◌++◌, Option, Some, None, Ok, Err, slice_get, slice_set, refl, sym, ap, ◌∙◌}
 use Rattle.ws_value.specs.declared.ids.TeeId.{TeeId}
 use Rattle.ws_value.specs.declared.value.Plain.{Plain}

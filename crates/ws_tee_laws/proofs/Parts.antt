@@ -1,4 +1,4 @@
--- Each branch of a tee gets a first part of what the source gave.
+-- What each branch of a tee gets (`each_branch_gets_a_first_part`).
 use Rattle.std.proofs.Common.{◌≡◌, true, is_some, List, [], ◌∷◌, ◌++◌, Option, Some, None, slice_get, refl, sym, ap, ◌∙◌, append-nil}
 use Rattle.ws_value.specs.declared.ids.StreamId.{StreamId}
 use Rattle.ws_value.specs.declared.ids.TeeId.{TeeId}

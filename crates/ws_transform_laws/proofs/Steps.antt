@@ -1,4 +1,4 @@
--- Each step of a half of a transform stream is lawful.
+-- Each step of a half of a transform stream (`each_half_step`).
 use Rattle.std.proofs.Common.{◌≡◌, ℕ, zero, suc, Bool, true, false, List, [], ◌∷◌, ◌++◌, map, Some, slice_get, refl, sym, subst, ◌∙◌, arith, append-nil}
 use Rattle.ws_value.specs.declared.ids.StreamId.{StreamId}
 use Rattle.ws_value.specs.declared.value.Value.{Value}

@@ -1,4 +1,4 @@
--- A host that enqueues only as it answers enqueues only while no write waits.
+-- A host that enqueues only as it answers (`none_waits_for_an_answer`, `none_waits_at_work`).
 use Rattle.ws_steps.specs.Begun as replying
 use Rattle.ws_steps.specs.ControllerCalls as controller_calls
 use Rattle.ws_steps.specs.declared.effects.Owner.TheVariants.{EndOf}

@@ -1,4 +1,4 @@
--- No write that waited goes on under backpressure, where the host enqueued only while none waited.
+-- Writes that waited, where the host enqueued only while none waited (`none_goes_on_pressed`), and so what is wanted and what is read.
 use Rattle.std.proofs.Common.{◌≡◌, ◌≤◌, Bool, true, false, ◌&&◌, List, [], ◌∷◌, ◌++◌, Option, Some, None, slice_get, refl, sym, subst, ap, ◌∙◌, arith, append_assoc, append-nil}
 use Rattle.ws_value.specs.declared.{ids.StreamId.{StreamId}, value.Value.{Value}}
 use Rattle.ws_steps.specs.declared.effects.{Effect.{Effect}}

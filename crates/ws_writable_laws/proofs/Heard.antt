@@ -1,4 +1,4 @@
--- The host hears of each performing of a write or close algorithm, in their order, and events are only added.
+-- What the host hears of the write and close algorithms (`acted_was_heard`); events are only added.
 use Rattle.std.proofs.Common.{◌≡◌, false, arith, List, [], ◌∷◌, ◌++◌, refl, sym, ap, ◌∙◌, append_assoc, append-nil, Option, Some, None, slice_get}
 use Rattle.ws_value.specs.declared.ids.PipeId.{PipeId}
 use Rattle.ws_value.specs.declared.ids.StreamId.{StreamId}

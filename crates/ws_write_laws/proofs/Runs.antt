@@ -1,4 +1,4 @@
--- The promises of the writes that ended well are fulfilled, and once the stream has ended the others are rejected, over every run.
+-- The promises of the writes that ended, and those of the others, over every run (`each_write_is_settled`).
 use Rattle.std.proofs.Common.{◌≡◌, nat_eq, Bool, true, false, is_some, List, [], ◌∷◌, ◌++◌, length, Option, Some, None, slice_get, refl, sym, ap, subst, ◌∙◌, arith, append-nil, append_assoc}
 use Rattle.ws_value.specs.declared.ids.PromiseId.{PromiseId}
 use Rattle.ws_value.specs.declared.ids.StreamId.{StreamId}

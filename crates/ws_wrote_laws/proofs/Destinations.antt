@@ -1,4 +1,4 @@
--- In a step that finds a pipe not over, its destination is written what the pipe passes on, and nothing else.
+-- What is written to the destination of a pipe in a step (`each_destination_is_its_pipes`).
 use Rattle.ws_value.specs.declared.ids.TeeId.{TeeId}
 use Rattle.ws_laws.proofs.PortDoes.{PortCauses}
 use Rattle.ws_value.specs.declared.ids.PortId.{PortId}

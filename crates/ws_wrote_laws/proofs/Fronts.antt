@@ -1,4 +1,4 @@
--- What is written to the destination of a pipe, while it isn't over, is a first part of what it passes on.
+-- What is written to the destination of a pipe while that isn't over (`each_pipe_wrote_a_front`).
 use Rattle.std.proofs.Common.{◌≡◌, Bool, true, false, ℕ, zero, suc, map, is_some, List, [], ◌∷◌, ◌++◌, Option, Some, None, slice_get, Result, Ok, Err, refl, sym, ap, subst, ◌∙◌, append_assoc, append-nil, arith}
 use Rattle.ws_value.specs.declared.{ids.PipeId.{PipeId}, ids.StreamId.{StreamId}, value.Plain.{Plain}, value.Plain.TheVariants.{Undefined}, value.Value.{Value}}
 use Rattle.ws_steps.specs.declared.effects.{Owner.{Owner}, Owner.TheVariants.{Host, HalfOf, BranchOf, EndOf}}

@@ -1,4 +1,4 @@
--- A pipe that ended without an error began its action, or ended, at some moment of the run, and then it had passed on all that it read.
+-- The moment at which a pipe that ended without an error began its action, or ended (`each_fulfilled_pipe_passed_all`).
 use Rattle.std.proofs.Common.{◌≡◌, ◌⊎◌, inl, inr, ⊎_elim, ℕ, Bool, true, false, nat_eq, List, [], ◌∷◌, ◌++◌, Option, Some, None, Result, Ok, Err, slice_get, refl, sym, ap, subst, ◌∙◌, append_assoc, arith}
 use Rattle.ws_laws.proofs.Halves.{halved-empty}
 use Rattle.ws_laws.proofs.Halves.{run-halved}
