@@ -1,4 +1,4 @@
--- The calls that open a realm lead to links, behind which nothing lies; and those of one segment to a chain.
+-- What the calls that open a realm lead to (`each_wiring_begins`), and those of one segment (`each_chain_begins`).
 use Rattle.std.proofs.Common.{◌≡◌, ℕ, zero, suc, ◌+◌, ◌*◌, ◌≤◌, ◌||◌, Bool, true, false, is_some, List, [], ◌∷◌, ◌++◌, length, Option, Some, None, slice_get, refl, sym, ap, subst, ◌∙◌, arith}
 use Rattle.ws_value.specs.declared.ids.PromiseId.{PromiseId}
 use Rattle.ws_value.specs.declared.ids.SignalId.{SignalId}

@@ -1,4 +1,4 @@
--- Every reason in a node of a pipeline is that of a failure.
+-- The reasons in a node of a pipeline (`each_node_clones`, `each_node_error_is_older`).
 use Rattle.std.proofs.Common.{◌≡◌, ℕ, zero, suc, ◌+◌, ◌*◌, ◌≤◌, ◌<◌, Bool, true, false, ◌||◌, List, [], ◌∷◌, ◌++◌, Some, None, Contains, slice_get, refl, sym, ap, subst, ◌∙◌, append_assoc, arith}
 use Rattle.ws_value.specs.declared.ids.PipeId.{PipeId}
 use Rattle.ws_value.specs.declared.ids.PortId.{PortId}

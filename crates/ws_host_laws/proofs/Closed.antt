@@ -1,5 +1,5 @@
--- The host settled the close algorithm of each writable stream well that is closed: the reaction to it is registered with the promise of that
--- host call alone, which only the host settles.
+-- How a writable stream came to be closed (`each_close_was_settled`): the reaction to its close algorithm is registered with the promise of that host
+-- call alone, which only the host settles.
 use Rattle.std.proofs.Common.{◌≡◌, Bool, true, false, List, [], ◌∷◌, ◌++◌, Some, Ok, Err, slice_get, refl, sym, ap, subst, ◌∙◌}
 use Rattle.ws_value.specs.declared.{ids.StreamId.{StreamId}}
 use Rattle.ws_value.specs.declared.value.Plain.{Plain}

@@ -1,4 +1,4 @@
--- The host settled the flush algorithm of a transform stream well where the reaction to it is the next job, after a fulfilment.
+-- How the host settled a flush algorithm to which the reaction is the next job (`each_flush_was_settled`).
 use Rattle.std.proofs.Common.{◌≡◌, ℕ, zero, suc, true, nat_eq, List, [], ◌∷◌, ◌++◌, map, Some, Ok, slice_get, ap, subst, ◌∙◌, arith}
 use Rattle.ws_value.specs.declared.{ids.StreamId.{StreamId}}
 use Rattle.ws_steps.specs.declared.{calls.HostCall.TheVariants.{Flush as HostFlush}}

@@ -1,4 +1,4 @@
--- The host settled each write of a stream well that ended well: over every run.
+-- How the host settled the writes that ended well, over every run (`each_write_was_settled`).
 use Rattle.std.proofs.Common.{◌≡◌, ℕ, ◌+◌, ◌<◌, Bool, true, false, is_some, ◌⊎◌, inl, inr, ⊎_elim, nat_eq, List, [], ◌∷◌, ◌++◌, length, Option, Some, None, Ok, Err, slice_get, slice_set, refl, sym, ap, subst, ◌∙◌, arith, append-nil, if◌then◌else◌}
 use Rattle.ws_value.specs.declared.{ids.HostId.{HostId}, ids.PromiseId.{PromiseId}, ids.StreamId.{StreamId}}
 use Rattle.ws_value.specs.declared.value.Plain.{Plain}

@@ -1,4 +1,4 @@
--- The chunks that a stream takes in are those that entered it: once it came to its end, none does.
+-- The chunks that a stream takes in (`each_take_is_told`): once it came to its end, none enters.
 use Rattle.std.proofs.Common.{◌≡◌, ◌⊎◌, inl, inr, ℕ, zero, suc, Bool, true, false, ◌||◌, List, [], ◌∷◌, ◌++◌, map, Option, Some, None, slice_get, refl, sym, ap, ◌∙◌, append_assoc, append-nil}
 use Rattle.ws_value.specs.declared.{ids.StreamId.{StreamId}, value.Value.{Value}}
 use Rattle.ws_steps.specs.declared.calls.Call.{Call}

@@ -1,4 +1,4 @@
--- A way opens: streams that were only made may be linked, and pipes between them make a way on which nothing lies.
+-- How a way opens (`each_way_opens`), and streams that were only made (`each_new_pair_is_free`).
 use Rattle.std.proofs.Common.{◌≡◌, ℕ, zero, suc, ◌+◌, Bool, true, false, not, ◌&&◌, nat_lt, List, [], ◌∷◌, ◌++◌, length, Option, Some, None, slice_get, slice_set, refl, sym, ap, subst, ◌∙◌, arith}
 use Rattle.ws_value.specs.declared.ids.{PipeId.{PipeId}, StreamId.{StreamId}}
 use Rattle.ws_steps.specs.declared.calls.{Call.{Call}, Reply.{Reply}, Reply.TheVariants.{Promise}, StartBy.{StartBy}, StartBy.TheVariants.{Now, Later}}

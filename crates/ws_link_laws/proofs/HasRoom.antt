@@ -1,4 +1,4 @@
--- A link has room for one chunk over any run that leaves it alone.
+-- Room for one chunk on a link, over any run that leaves it alone (`each_link_has_room`).
 use Rattle.std.proofs.Common.{◌≡◌, ℕ, zero, suc, ◌+◌, ◌≤◌, ◌||◌, true, List, [], ◌∷◌, length, Option, Some, None, slice_get, refl, ap, arith}
 use Rattle.ws_value.specs.declared.ids.PipeId.{PipeId}
 use Rattle.ws_value.specs.declared.ids.PromiseId.{PromiseId}

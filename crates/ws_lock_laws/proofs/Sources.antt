@@ -1,5 +1,4 @@
--- The reads that wait at streams over every run: none where there is no reader, and at the source of a pipe its own alone, one where it is
--- reading.
+-- The reads that wait at streams, over every run (`each_source_is_read_by_its_pipe`, `each_reading_has_one_read`).
 use Rattle.ws_steps.specs.declared.port.Side.{Side as PortSide}
 use Rattle.ws_steps.specs.Slots.{Done}
 use Rattle.ws_steps.specs.declared.port.Side.TheVariants.{Readable as ReadableSide, Writable as WritableSide}

@@ -1,5 +1,4 @@
--- A tee has its source alone: each operation of a reader that stands for the source is the tee's own, and no call of the host has to do
--- with it.
+-- Who has the source of a tee (`each_tee_owns_its_source`): each operation of a reader that stands for the source is the tee's own.
 use Rattle.ws_steps.specs.declared.port.Side.{Side as PortSide}
 use Rattle.ws_steps.specs.declared.port.Side.TheVariants.{Readable as ReadableSide, Writable as WritableSide}
 use Rattle.ws_value.specs.declared.ids.PortId.{PortId}

@@ -1,4 +1,4 @@
--- And over calls, jobs and runs.
+-- What the readable end of a port asks for, over calls, jobs and runs (`each_end_asks_in_turn`).
 use Rattle.std.proofs.Common.{◌≡◌, ℕ, zero, suc, ◌+◌, ◌≤◌, Bool, true, false, not, if◌then◌else◌, List, [], ◌∷◌, ◌++◌, length, map, Option, Some, None, slice_get, refl, sym, ap, subst, ◌∙◌, arith}
 use Rattle.ws_value.specs.declared.ids.{PipeId.{PipeId}, PortId.{PortId}, PromiseId.{PromiseId}, StreamId.{StreamId}}
 use Rattle.ws_value.specs.declared.value.Message.{Message}

@@ -1,4 +1,4 @@
--- Only a pipeTo and the sending of a stream make a pipe, and one that flows.
+-- Who makes a pipe, and how it begins (`each_pipe_begins_flowing`).
 use Rattle.ws_value.specs.declared.ids.RequestId.{RequestId}
 use Rattle.ws_steps.specs.Descriptors.{Descriptor}
 use Rattle.std.proofs.Common.{◌≡◌, List, [], ◌∷◌, Option, Some, None, refl, arith}

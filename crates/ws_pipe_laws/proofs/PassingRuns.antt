@@ -1,4 +1,4 @@
--- In every run, a pipe passes on what it reads, and one read of it at most is under way.
+-- What a pipe passes on, and its read under way, in every run (`each_pipe_passes`, `one_read_waits_at_most`).
 use Rattle.ws_steps.specs.declared.port.Side.{Side}
 use Rattle.ws_steps.specs.declared.port.Side.TheVariants.{Readable as ReadableSide, Writable as WritableSide}
 use Rattle.std.proofs.Common.{◌≡◌, ◌⊎◌, inl, inr, ⊎_elim, ℕ, zero, suc, ◌+◌, ◌≤◌, Bool, true, false, nat_eq, List, [], ◌∷◌, ◌++◌, length, length-append, Option, Some, None, slice_get, slice_set, refl, sym, ap, subst, ◌∙◌, append_assoc, append-nil, arith}

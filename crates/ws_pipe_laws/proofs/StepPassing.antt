@@ -1,4 +1,4 @@
--- What a pipe holds before a step, and what it reads in it, it passes on in this step or holds afterwards.
+-- What a pipe holds, reads and passes on in a step (`each_step_passes`).
 use Rattle.std.proofs.Common.{◌≡◌, ◌⊎◌, inl, inr, ⊎_elim, ℕ, Bool, true, false, nat_eq, if◌then◌else◌, List, [], ◌∷◌, ◌++◌, Option, Some, None, Result, slice_get, refl, sym, ap, ◌∙◌, append_assoc, arith}
 use Rattle.ws_laws.proofs.PortDoes.{PortCauses}
 use Rattle.ws_value.specs.declared.ids.PortId.{PortId}

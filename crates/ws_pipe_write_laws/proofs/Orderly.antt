@@ -1,4 +1,4 @@
--- A pipe that writes first what it read acts only when nothing is left.
+-- When a pipe acts that writes first what it read (`each_pipe_acts_in_order`).
 use Rattle.std.proofs.Common.{◌≡◌, ◌⊎◌, ℕ, ◌≤◌, Bool, true, false, nat_eq, List, [], ◌∷◌, ◌++◌, Option, Some, None, Result, slice_get, slice_set, zero, suc, refl, sym, ap, subst, ◌∙◌, append_assoc, append-nil, arith}
 use Rattle.ws_value.specs.declared.{ids.PipeId.{PipeId}, value.Plain.{Plain}}
 use Rattle.ws_steps.specs.declared.effects.Effect.{Effect}

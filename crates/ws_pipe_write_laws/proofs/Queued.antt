@@ -1,4 +1,4 @@
--- A microtask is queued for the chunk that a pipe holds.
+-- The microtask for the chunk that a pipe holds (`each_held_chunk_is_queued`).
 use Rattle.std.proofs.Common.{◌≡◌, ◌⊎◌, inl, inr, ⊎_elim, ℕ, zero, suc, ◌+◌, ◌≤◌, Bool, true, false, ◌||◌, nat_eq, is_some, List, [], ◌∷◌, ◌++◌, Option, Some, None, slice_get, slice_set, refl, sym, ap, subst, ◌∙◌, arith}
 use Rattle.ws_value.specs.declared.{ids.PipeId.{PipeId}, ids.PromiseId.{PromiseId}}
 use Rattle.ws_value.specs.declared.value.{Value.{Value}}

@@ -1,5 +1,4 @@
--- Each write that a pipe made has settled, or its reaction is registered or stands on the agenda; so each has settled where the pipe begins
--- to act.
+-- Each write that a pipe made has settled, or its reaction is registered or stands on the agenda; `none_acts_while_a_write_is_open` follows.
 use Rattle.std.proofs.Common.{◌≡◌, ◌⊎◌, inl, inr, ⊎_elim, ℕ, zero, suc, ◌+◌, ◌≤◌, ◌<◌, Bool, true, false, nat_eq, if◌then◌else◌, List, [], ◌∷◌, ◌++◌, length, Option, Some, None, Result, slice_get, refl, sym, ap, subst, ◌∙◌, append_assoc, append-nil, arith}
 use Rattle.std.specs.Option.{option_map}
 use Rattle.ws_value.specs.declared.{ids.PipeId.{PipeId}, ids.PromiseId.{PromiseId}}

@@ -1,4 +1,4 @@
--- An action settles only while it is under way.
+-- When an action settles (`each_action_settles_while_acting`).
 use Rattle.std.proofs.Common.{◌≡◌, ◌≤◌, true, nat_eq, List, [], ◌∷◌, ◌++◌, Option, Some, None, Result, slice_get, refl, ap, subst, arith}
 use Rattle.ws_value.specs.declared.{ids.PipeId.{PipeId}, value.Plain.{Plain}}
 use Rattle.ws_steps.specs.declared.effects.Effect.{Effect}

@@ -1,4 +1,4 @@
--- No step of a run settles a promise that isn't open.
+-- What is settled in each step of a run (`none_goes_astray`).
 use Rattle.ws_value.specs.declared.ids.StreamId.{StreamId}
 use Rattle.ws_steps.specs.declared.effects.Effect.TheVariants.{Writable, Pipe}
 use Rattle.ws_steps.specs.declared.pipes.PipeOperation.TheVariants.{Look, LookReady, KeepChunk, ReadEnded, WriteChunk, GoOn, WriteEnded, Abort as AbortPipe, ActionSettled, PartSettled, NoParts}

@@ -1,5 +1,5 @@
--- The reads that are asked of a stream for promises are those of the calls that read from it: no other call, no job and no effect asks one.
--- Those of pipes are for none.
+-- The reads that are asked of a stream for promises, by the calls (`reads_were_answered`): no other call, no job and no effect asks one. Those of
+-- pipes are for none.
 use Rattle.std.proofs.Common.{◌≡◌, Bool, true, false, ◌&&◌, List, [], ◌∷◌, ◌++◌, Option, Some, None, if◌then◌else◌, refl, sym, ap, ◌∙◌, append-nil, arith}
 use Rattle.ws_laws.proofs.PortDoes.{PortCauses}
 use Rattle.ws_steps.specs.declared.effects.Effect.TheVariants.{Port}

@@ -1,4 +1,4 @@
--- What a call or a job takes, at each moment of it, is within the room that is told beforehand.
+-- What a call or a job takes, at each moment of it (`room_is_enough`).
 use Rattle.std.proofs.Common.{◌≡◌, ◌≤◌, ℕ, zero, suc, ◌+◌, ◌*◌, Bool, true, false, if◌then◌else◌, List, [], ◌∷◌, ◌++◌, length, Option, Some, None, Result, Err, refl, ap, arith}
 use Rattle.std.specs.Prelude.{slice_get, nat_lt, nat_eq, not, ◌&&◌}
 use Rattle.ws_value.specs.declared.fault.Fault.{Fault}

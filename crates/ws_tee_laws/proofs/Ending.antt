@@ -1,4 +1,4 @@
--- In every run, each tee hands what its source gave to both its branches: the closed promise of its reader tells the end of its source.
+-- What each tee hands to its branches, in every run (`each_tee_hands_to_both`): the closed promise of its reader tells the end of its source.
 use Rattle.ws_value.specs.declared.ids.TeeId.{TeeId}
 use Rattle.ws_steps.specs.TeeLaws.{EachTeeHandsToBoth}
 use Rattle.ws_tee_laws.proofs.Both.{each_tee_hands_to_both_where}

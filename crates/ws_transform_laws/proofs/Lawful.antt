@@ -1,4 +1,4 @@
--- The writable half of a transform stream is lawful over every run.
+-- The order of the writable half of a transform stream, over every run (`each_half_is_lawful`).
 use Rattle.std.proofs.Common.{◌≡◌, ℕ, zero, suc, ◌+◌, ◌≤◌, ◌<◌, Bool, true, false, is_some, nat_eq, List, [], ◌∷◌, ◌++◌, length, map, Option, Some, None, Result, Ok, slice_get, refl, sym, subst, ap, ◌∙◌, arith, append-nil}
 use Rattle.ws_value.specs.declared.ids.{StreamId.{StreamId}}
 use Rattle.ws_value.specs.declared.value.{Plain.{Plain}, Value.{Value}}

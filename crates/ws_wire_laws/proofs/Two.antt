@@ -1,4 +1,4 @@
--- What moves one of two links leaves the other alone.
+-- What moves one of two links, and what the other does then (`each_step_moves_one_link`).
 use Rattle.std.proofs.Common.{◌≡◌, ◌⊎◌, inl, inr, ℕ, nat_eq, Bool, true, false, if◌then◌else◌, refl, arith}
 use Rattle.ws_value.specs.declared.ids.StreamId.{StreamId}
 use Rattle.ws_value.specs.declared.value.Value.{Value}

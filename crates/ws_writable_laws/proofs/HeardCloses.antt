@@ -1,4 +1,4 @@
--- The host hears of each performing of a close algorithm.
+-- What the host hears of close algorithms (`closes_were_heard`).
 use Rattle.std.proofs.Common.{◌≡◌, ℕ, ◌+◌, zero, suc, arith, length-append, List, [], ◌∷◌, ◌++◌, length, refl, sym, ap, ◌∙◌, zero-add}
 use Rattle.ws_value.specs.declared.ids.StreamId.{StreamId}
 use Rattle.ws_value.specs.declared.value.Plain.TheVariants.{Undefined}

@@ -1,4 +1,4 @@
--- A pipe that writes first what it read acts only once all of it is passed on.
+-- When a pipe acts that writes first what it read (`none_acts_while_a_chunk_is_left`).
 use Rattle.std.proofs.Common.{◌≡◌, ℕ, Bool, true, false, nat_eq, List, [], ◌∷◌, ◌++◌, Option, Some, None, slice_get, refl, sym, ap, subst, ◌∙◌, append_assoc, append-nil, arith}
 use Rattle.ws_value.specs.declared.{ids.PipeId.{PipeId}, value.Value.{Value}}
 use Rattle.ws_steps.specs.declared.effects.Effect.{Effect}

@@ -1,4 +1,4 @@
--- A pipe whose source has ended reads nothing more, and so all that it read is passed on once it acts.
+-- A pipe whose source has ended reads nothing more; `each_ended_source_is_passed_on` follows.
 use Rattle.std.proofs.Common.{◌≡◌, ◌≢◌, Bool, true, false, ◌||◌, if◌then◌else◌, List, [], ◌∷◌, ◌++◌, Option, Some, None, slice_get, refl, sym, ap, subst, ◌∙◌, append_assoc, append-nil, arith}
 use Rattle.ws_value.specs.declared.{ids.PipeId.{PipeId}, ids.StreamId.{StreamId}, value.Value.{Value}}
 use Rattle.ws_steps.specs.declared.effects.{Effect.{Effect}, Effect.TheVariants.{ChunkSteps}}
