@@ -40,8 +40,7 @@ pub record HasRun (shape : Shape) (past : List Entry) (s : Slots) : Type 0 where
   pub teeless : s.tees ≡ []
   pub portless : s.ports ≡ []
 
--- After these entries the pipe of link k has this promise, which is watched. Where nothing came through a transform stream, it is rejected only with a reason
--- of a failure, or with a pair of a tee, or with a fault of a port; and where it is fulfilled, the sink is closed, and the host settled its close well
+-- after these entries the pipe of link k has this promise, which is watched, and how that settled (as `each_chain_ends` has it)
 pub record PipeEnds (k : ℕ) (past : List Entry) (q : PromiseId) : Type 0 where
   pub its : promise_of k (run past empty) ≡ q
   pub watched : is_some (rank_at (run past empty).promises q) ≡ true
