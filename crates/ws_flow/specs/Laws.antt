@@ -48,13 +48,11 @@ EachNodeFlows =
     ((then_told out (residual ms ps)).mark ≢ Lost → then_told out (residual ms ps) ≡ all_through ms x) ×
     ((y : Told (List ℕ)) (qs : List Part) (new : Told (List ℕ)) → Goes ms y ps out qs new → Flows ms (then_told x y) qs new)
 
--- a turn keeps the relation between a node and the lists of its rows
 abbrev pub EachTurnKeeps : Type 0
 EachTurnKeeps =
     (ms : List Machine) (r0 r1 s0 s1 : List Message) (ps : List Part) (b0 : Told (List ℕ)) (qs : List Part) (b1 : Told (List ℕ)) →
     Relates ms r0 s0 ps b0 → Turned ms r0 r1 s0 s1 ps b0 qs b1 → Relates ms r1 s1 qs b1
 
--- a step of a realm leaves no more before a stage than lay there, where the realm keeps what it owes for that link
 abbrev pub EachPlaceKeeps : Type 0
 EachPlaceKeeps =
     (p : Place) (handed new entered later : Told (List ℕ)) → LinkKeeps handed new p.link entered → p.coming ≡ then_told entered later →

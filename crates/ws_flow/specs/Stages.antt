@@ -254,19 +254,16 @@ IsTold Frame = Gives Frame (map framed)
 
 -- What undoes what
 
--- `unhex` of `hex` is the input
 abbrev pub EachTextReadsBack : Type 0
 EachTextReadsBack =
     (x : Told (List ℕ)) → All (λ b. b < 256) (concat x.items) →
     (bytes_of (all_through (machines (Hex ∷ Unhex ∷ [])) x) ≡ bytes_of x) × (ending (machines (Hex ∷ Unhex ∷ [])) 1 x ≡ Fine)
 
--- `unframe` of `frame` is the chunks
 abbrev pub EachFrameReadsBack : Type 0
 EachFrameReadsBack =
     (most : ℤ) (x : Told (List ℕ)) → nat_abs most < 4294967296 → All (λ c. length c ≤ nat_abs most) x.items →
     (all_through (machines (Frame ∷ Unframe most ∷ [])) x ≡ x) × (ending (machines (Frame ∷ Unframe most ∷ [])) 1 x ≡ Fine)
 
--- what is masked twice isn't masked
 abbrev pub EachMaskTwiceIsNone : Type 0
 EachMaskTwiceIsNone = (key : List ℕ) (x : Told (List ℕ)) → all_through (machines (Mask key ∷ Mask key ∷ [])) x ≡ x
 
