@@ -13,7 +13,7 @@ use Rattle.ws_steps.specs.Slots.{Slots, Stream, ReadableStream, ByteStream, Writ
 use Rattle.ws_laws.proofs.Tables.{writable_there}
 use Rattle.ws_laws.proofs.Watched.{named-stays}
 use Rattle.ws_promise_laws.proofs.Names.{run-names}
-use Rattle.ws_pipe_laws.proofs.Kept.{each_pipe_stays}
+use Rattle.ws_pipe_laws.proofs.pipes.Kept.{each_pipe_stays}
 use Rattle.ws_link_laws.specs.Room.{HasRoom}
 use Rattle.ws_link_laws.specs.Sound.{IsLink, IsThere}
 use Rattle.ws_link_laws.proofs.Steps.{the_stream, stream_at, source_there}

@@ -14,8 +14,8 @@ use Rattle.ws_steps.specs.declared.transform.TransformId.{TransformId}
 use Rattle.ws_steps.specs.Promises.{next_job}
 use Rattle.ws_steps.specs.Run.{Entry, run}
 use Rattle.ws_steps.specs.Slots.{Slots, empty, owner_at, transform_at}
-use Rattle.ws_host_laws.specs.HostCalls.{WasSettledWell}
-use Rattle.ws_host_laws.proofs.Flushed.{each_flush_was_settled}
+use Rattle.ws_end_laws.specs.hosts.HostCalls.{WasSettledWell}
+use Rattle.ws_end_laws.proofs.hosts.Flushed.{each_flush_was_settled}
 use Rattle.ws_laws.proofs.Tables.{eq_numbers}
 use Rattle.ws_link_laws.specs.Link.{OfTransform, silence, ear_by, half_enters}
 use Rattle.ws_link_laws.specs.Sound.{IsHosts}

@@ -12,11 +12,11 @@ use Rattle.ws_steps.specs.Pipes as pipe
 use Rattle.ws_steps.specs.Promises.{next_id, fresh, outcome_at}
 use Rattle.ws_steps.specs.Run.{Entry, Called, Worked, Heard, run, after_call}
 use Rattle.ws_steps.specs.Slots.{Slots, empty, most_streams, owner_at, pipe_at}
-use Rattle.ws_pipe_laws.specs.PipeHistory.{run_course}
-use Rattle.ws_pipe_laws.proofs.Kept.{each_pipe_stays}
-use Rattle.ws_end_laws.proofs.PromiseEnds.{each_outcome_tells_the_end}
-use Rattle.ws_host_laws.specs.HostLaws.{MakesAPipe, next_pipe}
-use Rattle.ws_host_laws.proofs.Ended.{each_fulfilled_pipe_closed_its_destination}
+use Rattle.ws_pipe_laws.specs.pipes.PipeHistory.{run_course}
+use Rattle.ws_pipe_laws.proofs.pipes.Kept.{each_pipe_stays}
+use Rattle.ws_end_laws.proofs.ends.PromiseEnds.{each_outcome_tells_the_end}
+use Rattle.ws_end_laws.specs.hosts.HostLaws.{MakesAPipe, next_pipe}
+use Rattle.ws_end_laws.proofs.hosts.Ended.{each_fulfilled_pipe_closed_its_destination}
 use Rattle.ws_link_laws.proofs.Owners.{sink-stays}
 use Rattle.ws_reason_laws.specs.Origins.{through, origins, AreUnlocked}
 use Rattle.ws_reason_laws.specs.Reasons.{failure_of, failures, NeedsTee, NeedsPort}

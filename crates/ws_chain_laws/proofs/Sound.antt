@@ -26,11 +26,11 @@ use Rattle.ws_steps.specs.Writable as writable
 use Rattle.ws_steps.specs.Writable.{is_closing, is_writable}
 use Rattle.ws_flow.specs.Told.{Mark, Open, Closed, Broken, Lost, Told, told, goes_on, then_told}
 use Rattle.ws_flow.proofs.Unlost.{then-unlost}
-use Rattle.ws_pipe_laws.specs.PipeHistory.{is_live}
-use Rattle.ws_end_laws.specs.PassedAll.{is_failing}
+use Rattle.ws_pipe_laws.specs.pipes.PipeHistory.{is_live}
+use Rattle.ws_end_laws.specs.ends.PassedAll.{is_failing}
 use Rattle.ws_link_laws.specs.Link.{Ear, is_port, is_sink, is_half, heard_of, heard_call, heard_post, unheard, silence, todo_of, before_todo, sink_by, in_sink, values, closing_mark, source_by, in_source, held_items, piped_by, in_pipe, lies, behind, ear_at}
 use Rattle.ws_link_laws.specs.Sound.{is_closed, IsLink, FitsIn, SinkAlive, Closing}
-use Rattle.ws_success_laws.proofs.Closes.{each_unfailing_pipe_closes}
+use Rattle.ws_end_laws.proofs.successes.Closes.{each_unfailing_pipe_closes}
 use Rattle.ws_chain_laws.specs.Sound.{IsSound, EachSoundLinkIsWhole}
 
 -- what the host hasn't heard

@@ -35,7 +35,7 @@ use Rattle.ws_laws.proofs.Lists.{Each, each-append}
 use Rattle.ws_laws.proofs.Tables.{either, readable_acts, byte_acts, writable_acts, readable_there, byte_there, writable_there}
 use Rattle.ws_room_laws.proofs.Turns.{performed-kept}
 use Rattle.ws_link_laws.specs.Link.{Ear, silence, unheard}
-use Rattle.ws_cross_laws.proofs.Told.{row-posted, watch-posted}
+use Rattle.ws_tee_port_laws.proofs.ports.Told.{row-posted, watch-posted}
 use Rattle.ws_link_laws.proofs.Unheard.{row-unheard, watch-unheard}
 use Rattle.ws_chain_laws.proofs.Lists.{AllOf, all-get, all-set, length-set}
 

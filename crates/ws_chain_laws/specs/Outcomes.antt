@@ -9,7 +9,7 @@ use Rattle.ws_steps.specs.Promises.{next_job, outcome_at, rank_at}
 use Rattle.ws_steps.specs.Run.{Entry, Called, run}
 use Rattle.ws_steps.specs.Slots.{empty, most_streams, writable_at}
 use Rattle.ws_flow.specs.Told.{Closed, told}
-use Rattle.ws_host_laws.specs.HostCalls.{WasSettledWell}
+use Rattle.ws_end_laws.specs.hosts.HostCalls.{WasSettledWell}
 use Rattle.ws_link_laws.specs.Link.{silence}
 use Rattle.ws_reason_laws.specs.Origins.{through}
 use Rattle.ws_reason_laws.specs.Reasons.{NeedsTee, NeedsPort, failures}

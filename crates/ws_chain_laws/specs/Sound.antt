@@ -5,7 +5,7 @@ use Rattle.ws_value.specs.declared.ids.StreamId.{StreamId}
 use Rattle.ws_steps.specs.declared.readable.ReadableState.TheVariants.{Errored}
 use Rattle.ws_steps.specs.Slots.{Slots, pipe_at, source_at, writable_at}
 use Rattle.ws_flow.specs.Told.{Lost}
-use Rattle.ws_end_laws.specs.PassedAll.{is_failing}
+use Rattle.ws_end_laws.specs.ends.PassedAll.{is_failing}
 use Rattle.ws_link_laws.specs.Link.{behind}
 use Rattle.ws_link_laws.specs.Sound.{IsLink}
 

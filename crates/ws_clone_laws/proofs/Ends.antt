@@ -31,10 +31,10 @@ use Rattle.ws_room_laws.proofs.Turns.{performed-kept}
 use Rattle.ws_readable_laws.proofs.Ports.{called-port_shapes}
 use Rattle.ws_link_laws.specs.Link.{OfPort, in_sink, ear_at, unheard, lies}
 use Rattle.ws_link_laws.specs.Sound.{SinkFits}
-use Rattle.ws_cross_laws.specs.Ended.{has_close}
-use Rattle.ws_cross_laws.proofs.Closing.{each_writable_end_posts_close_last}
-use Rattle.ws_cross_laws.proofs.Told.{posted-append}
-use Rattle.ws_cross_laws.proofs.WritableEnds.{each_writable_end_is_lawful}
+use Rattle.ws_tee_port_laws.specs.ports.Ended.{has_close}
+use Rattle.ws_tee_port_laws.proofs.ports.Closing.{each_writable_end_posts_close_last}
+use Rattle.ws_tee_port_laws.proofs.ports.Told.{posted-append}
+use Rattle.ws_tee_port_laws.proofs.ports.WritableEnds.{each_writable_end_is_lawful}
 use Rattle.ws_reason_laws.specs.Reasons.{failure_of}
 use Rattle.ws_chain_laws.specs.Chain.{Origin, FromChunks, FromBytes, FromPort, Target, ToSink, ToPort, source_of, dest_of, link_of, source_port, sink_port, ports_before, behind_at}
 use Rattle.ws_chain_laws.specs.Opening.{source_call, sink_call, transforms, streams, signals, signal_of, piping, pipes_from, opening, chained}

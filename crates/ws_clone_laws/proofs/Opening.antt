@@ -13,7 +13,7 @@ use Rattle.ws_steps.specs.Pipes as pipe
 use Rattle.ws_steps.specs.Run.{Entry, Called, Worked, Heard, step, run, after_call}
 use Rattle.ws_steps.specs.Slots.{Slots, empty, most_streams}
 use Rattle.ws_link_laws.specs.Sound.{IsThere}
-use Rattle.ws_lock_laws.specs.LockLaws.{all_spare}
+use Rattle.ws_pipe_laws.specs.locks.LockLaws.{all_spare}
 use Rattle.ws_reason_laws.specs.Origins.{through_of}
 use Rattle.ws_reason_laws.specs.Reasons.{failure_of, erred_by}
 use Rattle.ws_reason_laws.proofs.Asking.{goes}

@@ -34,8 +34,8 @@ use Rattle.ws_flow.proofs.Told.{then_assoc, then_empty, before_of_short, before_
 use Rattle.ws_link_laws.specs.Link as link
 use Rattle.ws_link_laws.specs.Link.{Ear, OfPort, Giver, OfSource, OfByteSource, OfHalf, OfEnd, silence, lets_in, is_end, delivered, enters, heard_of, heard_post, unheard, todo_of, before_todo, sink_by, in_sink}
 use Rattle.ws_link_laws.specs.Sound.{Closing, FitsIn, SinkFits}
-use Rattle.ws_cross_laws.specs.Ended.{is_close, has_close}
-use Rattle.ws_cross_laws.specs.Sending.{can_be_sent}
+use Rattle.ws_tee_port_laws.specs.ports.Ended.{is_close, has_close}
+use Rattle.ws_tee_port_laws.specs.ports.Sending.{can_be_sent}
 use Rattle.ws_chain_laws.specs.Chain.{Origin, source_of, giver, call_enters}
 use Rattle.ws_chain_laws.specs.Laws.{next_enters}
 use Rattle.ws_chain_laws.specs.Runs.{brought_to}

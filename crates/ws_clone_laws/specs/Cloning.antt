@@ -20,7 +20,7 @@ use Rattle.ws_steps.specs.Promises.{outcome_at}
 use Rattle.ws_steps.specs.Run.{Entry, Called, Worked, Heard, run}
 use Rattle.ws_steps.specs.Slots.{Slots, empty, most_streams, has_port, port_at, source_at, writable_at}
 use Rattle.ws_steps.specs.Writable.{is_erroring, is_errored}
-use Rattle.ws_cross_laws.specs.Sending.{can_be_sent}
+use Rattle.ws_tee_port_laws.specs.ports.Sending.{can_be_sent}
 use Rattle.ws_reason_laws.specs.Reasons.{failures}
 use Rattle.ws_chain_laws.specs.Chain.{Origin, Target}
 use Rattle.ws_chain_laws.specs.Outcomes.{past_of, last_promise}

@@ -1,23 +1,4 @@
-pub mod OpenPromises
-pub mod EndedPromises
-pub mod PromiseEnds
-pub mod PipeCalls
-pub mod ReadyWaits
-pub mod Parts
-pub mod Failing
-pub mod Starting
-pub mod Closers
-pub mod Finding
-pub mod Streaming
-pub mod FindingRuns
-pub mod PassedAll
-pub mod Rejections
-pub mod Hearing
-pub mod Altering
-pub mod Doomed
-pub mod DoomedRows
-pub mod DoomedJobs
-pub mod DoomedRuns
-pub mod DoomedSteps
-pub mod MayClose
-mod Worked
+pub mod wrote
+pub mod ends
+pub mod hosts
+pub mod successes

@@ -1,4 +1,4 @@
-pub mod PassedAll
-pub mod PipeCalls
-pub mod PipeWaits
-pub mod PromiseEnds
+pub mod wrote
+pub mod ends
+pub mod hosts
+pub mod successes

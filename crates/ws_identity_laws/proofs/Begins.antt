@@ -20,8 +20,8 @@ use Rattle.ws_steps.specs.Turns.{performed}
 use Rattle.ws_flow.specs.Told.{Told, then_told, IsShortOf}
 use Rattle.ws_flow.proofs.Told.{then_empty, short_refl}
 use Rattle.ws_laws.proofs.Lists.{Each}
-use Rattle.ws_pipe_laws.proofs.AtSource.{except_few, all_off}
-use Rattle.ws_pipe_laws.proofs.PassingRuns.{call-none, call-is}
+use Rattle.ws_pipe_laws.proofs.pipes.AtSource.{except_few, all_off}
+use Rattle.ws_pipe_laws.proofs.pipes.PassingRuns.{call-none, call-is}
 use Rattle.ws_transform_laws.proofs.Halving.{going}
 use Rattle.ws_transform_laws.proofs.PortHalving.{port-going}
 use Rattle.ws_link_laws.specs.Link.{in_sink, in_source, lies}

@@ -34,7 +34,7 @@ use Rattle.ws_laws.proofs.Apart.{IsApart, IsNoPipe, row-pipes, row-streams, row-
 use Rattle.ws_laws.proofs.Tables.{readable_acts, byte_acts, writable_acts, same_id, readable_there, byte_there, writable_there, on_readable-same, on_byte-same, on_byte-other, on_byte-writable, on_source-readable, on_source-byte, on_source-other, on_source-writable, on_writable-same, on_writable-other, on_writable-look, on_writable-source}
 use Rattle.ws_laws.proofs.Truth.{and_left, and_right}
 use Rattle.ws_room_laws.proofs.Turns.{performed-kept}
-use Rattle.ws_pipe_laws.specs.PipeMoves.{starting}
+use Rattle.ws_pipe_laws.specs.pipes.PipeMoves.{starting}
 use Rattle.ws_link_laws.specs.Laws.{entry_leaves, all_leave}
 use Rattle.ws_link_laws.specs.Link.{giver_at, enters, leaves}
 use Rattle.ws_link_laws.specs.Sound.{IsBare, all_spare, all_apart, all_untied}

@@ -20,10 +20,10 @@ use Rattle.ws_flow.proofs.Told.{then_empty, short_refl}
 use Rattle.ws_laws.proofs.Lists.{Each, each-append, each-map}
 use Rattle.ws_laws.proofs.PipeDoes.{PipeCauses, pipe-causes, is_looking}
 use Rattle.ws_laws.proofs.Tables.{eq_numbers, unequal_numbers}
-use Rattle.ws_pipe_laws.specs.PipeMoves.{starting}
-use Rattle.ws_pipe_laws.proofs.AtSource.{off, all_off, OffNone, off_none, own_off}
-use Rattle.ws_pipe_laws.proofs.PassingRuns.{Few, place_same, row-few}
-use Rattle.ws_pipe_laws.proofs.Reading.{of_effect, IsNone, none-all, other-none}
+use Rattle.ws_pipe_laws.specs.pipes.PipeMoves.{starting}
+use Rattle.ws_pipe_laws.proofs.pipes.AtSource.{off, all_off, OffNone, off_none, own_off}
+use Rattle.ws_pipe_laws.proofs.pipes.PassingRuns.{Few, place_same, row-few}
+use Rattle.ws_pipe_laws.proofs.pipes.Reading.{of_effect, IsNone, none-all, other-none}
 use Rattle.ws_writable_laws.proofs.Shape.{all, all-append}
 use Rattle.ws_transform_laws.proofs.Halving.{going}
 use Rattle.ws_transform_laws.proofs.PortHalving.{port-going}

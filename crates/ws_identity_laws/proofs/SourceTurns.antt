@@ -23,8 +23,8 @@ use Rattle.ws_laws.proofs.Lists.{Each, each-append}
 use Rattle.ws_laws.proofs.Apart.{IsNoPipe, row-pipes}
 use Rattle.ws_laws.proofs.Causes.{row-causes}
 use Rattle.ws_laws.proofs.Tables.{is_same-refl, same_id, readable_acts, byte_acts, readable_there, byte_there, on_readable-same, on_byte-same, on_byte-other, on_byte-writable, on_source-byte, on_source-readable, on_source-other, on_source-writable}
-use Rattle.ws_pipe_laws.proofs.AtSource.{off-only, row-off}
-use Rattle.ws_pipe_laws.proofs.PassingRuns.{row-few}
+use Rattle.ws_pipe_laws.proofs.pipes.AtSource.{off-only, row-off}
+use Rattle.ws_pipe_laws.proofs.pipes.PassingRuns.{row-few}
 use Rattle.ws_transform_laws.proofs.Halving.{going}
 use Rattle.ws_transform_laws.proofs.PortHalving.{port-going}
 use Rattle.ws_link_laws.specs.Entering.{entered, bytes_entered}

@@ -13,8 +13,8 @@ use Rattle.ws_steps.specs.WritableHistory.{Writes}
 use Rattle.ws_flow.specs.Told.{Open, Told, then_told, IsShortOf}
 use Rattle.ws_flow.proofs.Told.{short_left}
 use Rattle.ws_laws.proofs.Lists.{Each}
-use Rattle.ws_pipe_laws.proofs.AtSource.{Only}
-use Rattle.ws_pipe_laws.proofs.PassingRuns.{Few}
+use Rattle.ws_pipe_laws.proofs.pipes.AtSource.{Only}
+use Rattle.ws_pipe_laws.proofs.pipes.PassingRuns.{Few}
 use Rattle.ws_transform_laws.proofs.Halving.{Going}
 use Rattle.ws_link_laws.specs.Link.{in_sink, in_source, in_pipe, lies}
 use Rattle.ws_link_laws.proofs.Pipes.{rank}

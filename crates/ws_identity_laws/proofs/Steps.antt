@@ -23,8 +23,8 @@ use Rattle.ws_laws.proofs.Lists.{Each, each-map}
 use Rattle.ws_laws.proofs.Apart.{row-locks}
 use Rattle.ws_laws.proofs.Tables.{writable_there}
 use Rattle.ws_laws.proofs.Walker.{IsHistory, performed-goes, nothing-told}
-use Rattle.ws_pipe_laws.proofs.AtSource.{all_off}
-use Rattle.ws_pipe_laws.proofs.PassingRuns.{call-none, job-none, call-is}
+use Rattle.ws_pipe_laws.proofs.pipes.AtSource.{all_off}
+use Rattle.ws_pipe_laws.proofs.pipes.PassingRuns.{call-none, job-none, call-is}
 use Rattle.ws_transform_laws.proofs.Halving.{going}
 use Rattle.ws_transform_laws.proofs.PortHalving.{port-going}
 use Rattle.ws_transform_laws.proofs.Told.{along-map}

@@ -26,8 +26,8 @@ use Rattle.ws_laws.proofs.Lists.{Each, each-append}
 use Rattle.ws_laws.proofs.Apart.{IsApart, IsNoPipe, row-pipes, row-streams}
 use Rattle.ws_laws.proofs.Causes.{row-causes}
 use Rattle.ws_laws.proofs.Tables.{is_same-refl, same_id}
-use Rattle.ws_pipe_laws.proofs.AtSource.{off-only, row-off}
-use Rattle.ws_pipe_laws.proofs.PassingRuns.{row-few}
+use Rattle.ws_pipe_laws.proofs.pipes.AtSource.{off-only, row-off}
+use Rattle.ws_pipe_laws.proofs.pipes.PassingRuns.{row-few}
 use Rattle.ws_transform_laws.proofs.Halving.{going}
 use Rattle.ws_transform_laws.proofs.PortHalving.{port-going}
 use Rattle.ws_link_laws.specs.Link.{OfSink, silence, in_sink}

@@ -25,8 +25,8 @@ use Rattle.ws_flow.specs.Told.{Told, then_told, IsShortOf}
 use Rattle.ws_flow.proofs.Told.{then_empty, short_refl}
 use Rattle.ws_laws.proofs.Lists.{Each, each-map}
 use Rattle.ws_laws.proofs.Truth.{and_right}
-use Rattle.ws_pipe_laws.proofs.AtSource.{except_few, all_off}
-use Rattle.ws_pipe_laws.proofs.PassingRuns.{call-none, call-is}
+use Rattle.ws_pipe_laws.proofs.pipes.AtSource.{except_few, all_off}
+use Rattle.ws_pipe_laws.proofs.pipes.PassingRuns.{call-none, call-is}
 use Rattle.ws_transform_laws.proofs.Halving.{going}
 use Rattle.ws_transform_laws.proofs.PortHalving.{port-going}
 use Rattle.ws_link_laws.proofs.PortShut.{shuts-stays}

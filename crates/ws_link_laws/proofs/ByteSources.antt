@@ -26,7 +26,7 @@ use Rattle.ws_steps.specs.Readable as readable
 use Rattle.ws_flow.specs.Told.{Open, Told, told, then_told, IsShortOf}
 use Rattle.ws_flow.proofs.Told.{short_refl, then_empty}
 use Rattle.ws_laws.proofs.Tables.{either}
-use Rattle.ws_pipe_laws.specs.PipeReads.{is_of}
+use Rattle.ws_pipe_laws.specs.pipes.PipeReads.{is_of}
 use Rattle.ws_link_laws.specs.Link.{OfByteSource, silence, values, in_source}
 use Rattle.ws_link_laws.specs.Sound.{Owned, NoneWaits, SourceFits, IsBare}
 use Rattle.ws_link_laws.specs.Entering.{entered, bytes_entered}

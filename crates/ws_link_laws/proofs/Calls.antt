@@ -61,7 +61,7 @@ use Rattle.ws_link_laws.specs.Link.{Ear, silence, unheard, giver_at, enters, lea
 use Rattle.ws_link_laws.specs.Sound.{spares, all_spare, AreApart, IsApart, all_untied}
 use Rattle.ws_link_laws.proofs.Telling.{is_of, if_same, IsSilent, silent-all, coming}
 use Rattle.ws_link_laws.proofs.Unheard.{fresh-unheard}
-use Rattle.ws_pipe_laws.proofs.PassingRuns.{appended}
+use Rattle.ws_pipe_laws.proofs.pipes.PassingRuns.{appended}
 use Rattle.ws_steps.specs.Tee as tee
 use Rattle.ws_laws.proofs.EachCall.{each_call}
 use Rattle.ws_laws.proofs.Ended.{Ended as AreEnds}

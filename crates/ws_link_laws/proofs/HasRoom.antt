@@ -28,8 +28,8 @@ use Rattle.ws_steps.specs.Turns.{performed}
 use Rattle.ws_laws.proofs.Lists.{Each, each-map}
 use Rattle.ws_laws.proofs.Truth.{and_left, and_right}
 use Rattle.ws_room_laws.proofs.Turns.{performed-kept}
-use Rattle.ws_pipe_laws.specs.PipeReads.{held_values, in_requests, in_stream, in_streams, one_if}
-use Rattle.ws_pipe_laws.proofs.PassingRuns.{Few}
+use Rattle.ws_pipe_laws.specs.pipes.PipeReads.{held_values, in_requests, in_stream, in_streams, one_if}
+use Rattle.ws_pipe_laws.proofs.pipes.PassingRuns.{Few}
 use Rattle.ws_writable_laws.proofs.Shape.{all}
 use Rattle.ws_link_laws.specs.Laws.{entry_leaves, all_leave}
 use Rattle.ws_link_laws.specs.Room.{Full, Sized, HasRoom, place_of, places_of, taken_places, EachLinkHasRoom, EachLinkBeginsWithRoom}

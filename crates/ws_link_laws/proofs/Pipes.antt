@@ -31,7 +31,7 @@ use Rattle.ws_laws.proofs.Lists.{Each, each-append}
 use Rattle.ws_laws.proofs.PipeDoes.{is_looking}
 use Rattle.ws_laws.proofs.Tables.{either, is_same-refl}
 use Rattle.ws_laws.proofs.Truth.{and_left}
-use Rattle.ws_pipe_laws.specs.PipeMoves.{starting}
+use Rattle.ws_pipe_laws.specs.pipes.PipeMoves.{starting}
 use Rattle.ws_link_laws.specs.Link.{silence, held_items, in_pipe}
 use Rattle.ws_link_laws.specs.Sound.{Closes}
 use Rattle.ws_link_laws.proofs.Telling.{tells, tells-append, lost_short, writes}

@@ -44,9 +44,9 @@ use Rattle.ws_laws.proofs.Causes.{Causes, SignalCauses, row-causes}
 use Rattle.ws_laws.proofs.Tables.{either, is_same-refl, same_id, eq_numbers, unequal_numbers, writable_acts, on_byte-writable, on_source-writable, on_writable-same, on_writable-other}
 use Rattle.ws_laws.proofs.TransformDoes.{TransformCauses}
 use Rattle.ws_laws.proofs.Truth.{and_right}
-use Rattle.ws_pipe_laws.specs.PipeMoves.{starting}
-use Rattle.ws_pipe_laws.specs.PipeReads.{held_values, one_if}
-use Rattle.ws_pipe_laws.proofs.PassingRuns.{Few, place_same}
+use Rattle.ws_pipe_laws.specs.pipes.PipeMoves.{starting}
+use Rattle.ws_pipe_laws.specs.pipes.PipeReads.{held_values, one_if}
+use Rattle.ws_pipe_laws.proofs.pipes.PassingRuns.{Few, place_same}
 use Rattle.ws_writable_laws.proofs.Shape.{all, all-append}
 use Rattle.ws_link_laws.specs.Link.{silence}
 use Rattle.ws_link_laws.specs.Room.{Sized}

@@ -26,8 +26,8 @@ use Rattle.ws_laws.proofs.Lists.{Each, each-append}
 use Rattle.ws_laws.proofs.Apart.{row-pipes}
 use Rattle.ws_laws.proofs.Causes.{row-causes}
 use Rattle.ws_laws.proofs.Tables.{is_same-refl, same_id, writable_acts, on_writable-same, on_writable-other, on_writable-source, on_writable-look}
-use Rattle.ws_pipe_laws.proofs.AtSource.{off-only, row-off}
-use Rattle.ws_pipe_laws.proofs.PassingRuns.{row-few}
+use Rattle.ws_pipe_laws.proofs.pipes.AtSource.{off-only, row-off}
+use Rattle.ws_pipe_laws.proofs.pipes.PassingRuns.{row-few}
 use Rattle.ws_writable_laws.proofs.Agenda.{found}
 use Rattle.ws_writable_laws.proofs.Expects.{write_settled-expects, close_settled-expects, abort_settled-expects}
 use Rattle.ws_writable_laws.proofs.Operations.{same_once}

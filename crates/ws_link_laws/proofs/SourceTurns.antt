@@ -25,8 +25,8 @@ use Rattle.ws_laws.proofs.Lists.{Each, each-append}
 use Rattle.ws_laws.proofs.Apart.{IsNoPipe, row-pipes}
 use Rattle.ws_laws.proofs.Causes.{row-causes}
 use Rattle.ws_laws.proofs.Tables.{is_same-refl, same_id, readable_acts, byte_acts, readable_there, byte_there, no_byte_there, on_readable-same, on_byte-same, on_byte-other, on_byte-writable, on_source-byte, on_source-readable, on_source-other, on_source-writable}
-use Rattle.ws_pipe_laws.proofs.AtSource.{Only, off, off-only, row-off}
-use Rattle.ws_pipe_laws.proofs.PassingRuns.{row-few}
+use Rattle.ws_pipe_laws.proofs.pipes.AtSource.{Only, off, off-only, row-off}
+use Rattle.ws_pipe_laws.proofs.pipes.PassingRuns.{row-few}
 use Rattle.ws_writable_laws.proofs.Shape.{all, all-append}
 use Rattle.ws_link_laws.specs.Entering.{entered, bytes_entered}
 use Rattle.ws_link_laws.specs.Link.{OfSource, OfByteSource, silence, in_sink, in_source, in_pipe, ear_at, giver_by, giver_at, unheard}

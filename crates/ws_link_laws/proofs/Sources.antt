@@ -19,7 +19,7 @@ use Rattle.ws_steps.specs.Promises.{Table}
 use Rattle.ws_steps.specs.Readable.{Slots, Acts, waiting, close_all, error_all, close_reader, error_reader, release_closed, call_pull_if_needed, accept, controller_enqueue, stream_close, stream_error, close_if_empty, controller_close, controller_error, after_take, pull_steps, default_reader_read, reader_generic_initialize, disturb, cancel_if_readable, start_settled, pull_settled, cancel_steps, stream_cancel, release_by, reader_release}
 use Rattle.ws_flow.specs.Told.{Told, then_told, IsShortOf}
 use Rattle.ws_flow.proofs.Told.{short_refl, then_empty}
-use Rattle.ws_pipe_laws.specs.PipeReads.{is_of}
+use Rattle.ws_pipe_laws.specs.pipes.PipeReads.{is_of}
 use Rattle.ws_link_laws.specs.Link.{OfSource, silence, values, in_source}
 use Rattle.ws_link_laws.specs.Sound.{Owned, NoneWaits, SourceFits}
 use Rattle.ws_link_laws.specs.Entering.{entered}

@@ -18,11 +18,11 @@ use Rattle.ws_steps.specs.Slots.{Slots, has_source, has_writable, byte_at, sourc
 use Rattle.ws_flow.specs.Told.{Told, then_told}
 use Rattle.ws_laws.proofs.Lists.{Each}
 use Rattle.ws_laws.proofs.PipeDoes.{is_looking}
-use Rattle.ws_pipe_laws.specs.PipeReads.{is_of, in_streams}
-use Rattle.ws_pipe_laws.proofs.AtSource.{Only}
-use Rattle.ws_pipe_laws.proofs.PassingRuns.{Few, reads_now}
-use Rattle.ws_pipe_laws.proofs.Reading.{of_effect}
-use Rattle.ws_pipe_laws.specs.PipeReads as reads
+use Rattle.ws_pipe_laws.specs.pipes.PipeReads.{is_of, in_streams}
+use Rattle.ws_pipe_laws.proofs.pipes.AtSource.{Only}
+use Rattle.ws_pipe_laws.proofs.pipes.PassingRuns.{Few, reads_now}
+use Rattle.ws_pipe_laws.proofs.pipes.Reading.{of_effect}
+use Rattle.ws_pipe_laws.specs.pipes.PipeReads as reads
 use Rattle.ws_writable_laws.proofs.Shape.{all, all-append}
 use Rattle.ws_link_laws.specs.Link.{silence, in_sink, in_source, in_pipe, ear_at, giver_at, unheard}
 use Rattle.ws_link_laws.specs.Sound.{AreApart, IsBare, SourceFits, SinkFits, Closes}

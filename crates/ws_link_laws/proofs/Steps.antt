@@ -36,10 +36,10 @@ use Rattle.ws_laws.proofs.Shapes.{stream_shape, transform_shape, tee_shape}
 use Rattle.ws_laws.proofs.Walker as walker
 use Rattle.ws_laws.proofs.Tables.{writable_there}
 use Rattle.ws_room_laws.proofs.Turns.{performed-kept}
-use Rattle.ws_pipe_laws.specs.PipeHistory.{Through, run_through}
-use Rattle.ws_pipe_laws.specs.PipeReads.{in_stream}
-use Rattle.ws_pipe_laws.proofs.AtSource.{except, except-append, all_off}
-use Rattle.ws_pipe_laws.proofs.PassingRuns.{Few, Is, call-none, job-none, call-is, each_is}
+use Rattle.ws_pipe_laws.specs.pipes.PipeHistory.{Through, run_through}
+use Rattle.ws_pipe_laws.specs.pipes.PipeReads.{in_stream}
+use Rattle.ws_pipe_laws.proofs.pipes.AtSource.{except, except-append, all_off}
+use Rattle.ws_pipe_laws.proofs.pipes.PassingRuns.{Few, Is, call-none, job-none, call-is, each_is}
 use Rattle.ws_writable_laws.proofs.Runs.{is_history}
 use Rattle.ws_transform_laws.proofs.Halving.{Going, going, going-rests, none-going}
 use Rattle.ws_link_laws.proofs.PortShut.{Shuts, shuts-stays, run-shuts}

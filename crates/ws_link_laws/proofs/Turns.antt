@@ -30,8 +30,8 @@ use Rattle.ws_laws.proofs.Lists.{Each, each-append}
 use Rattle.ws_laws.proofs.Apart.{IsApart, IsNoPipe, row-pipes, row-streams}
 use Rattle.ws_laws.proofs.Causes.{SignalCauses, row-causes}
 use Rattle.ws_laws.proofs.Tables.{is_same-refl, same_id}
-use Rattle.ws_pipe_laws.proofs.AtSource.{off-only, row-off}
-use Rattle.ws_pipe_laws.proofs.PassingRuns.{row-few}
+use Rattle.ws_pipe_laws.proofs.pipes.AtSource.{off-only, row-off}
+use Rattle.ws_pipe_laws.proofs.pipes.PassingRuns.{row-few}
 use Rattle.ws_link_laws.specs.Link.{Ear, silence, in_sink, in_source, in_pipe, ear_by, ear_at, is_sink, heard_call, unheard}
 use Rattle.ws_link_laws.specs.Sound.{SinkFits, IsHosts, all_untied}
 use Rattle.ws_link_laws.proofs.Ahead.{Ahead, ahead-kept, ahead-silent, row-ahead, closing-flies}

@@ -27,7 +27,7 @@ use Rattle.ws_laws.proofs.Apart.{IsApart, IsNoPipe, row-pipes, row-streams, row-
 use Rattle.ws_laws.proofs.Tables.{readable_acts, byte_acts, writable_acts, is_same-refl, same_id, readable_there, byte_there, on_readable-same, on_byte-same, on_byte-other, on_byte-writable, on_source-byte, on_source-readable, on_source-other, on_source-writable, on_writable-same, on_writable-other, on_writable-source, on_writable-look}
 use Rattle.ws_laws.proofs.Truth.{and_left, and_right}
 use Rattle.ws_room_laws.proofs.Turns.{performed-kept}
-use Rattle.ws_pipe_laws.specs.PipeMoves.{starting}
+use Rattle.ws_pipe_laws.specs.pipes.PipeMoves.{starting}
 use Rattle.ws_link_laws.specs.Sound.{all_apart}
 use Rattle.ws_link_laws.proofs.Begins.{apart_at}
 use Rattle.ws_link_laws.proofs.Hosts.{Hosts, hosts-same, hosts-row}

@@ -12,7 +12,7 @@ use Rattle.ws_steps.specs.declared.writable.WriteRecord.TheVariants.{Chunk, InFl
 use Rattle.ws_steps.specs.Queues.{total_of}
 use Rattle.ws_steps.specs.Run.{Entry, run, after_call}
 use Rattle.ws_steps.specs.Slots.{Slots, source_at, writable_at, pipe_at}
-use Rattle.ws_pipe_laws.specs.PipeReads.{held_values, in_requests, one_if}
+use Rattle.ws_pipe_laws.specs.pipes.PipeReads.{held_values, in_requests, one_if}
 use Rattle.ws_link_laws.specs.Laws.{all_leave}
 use Rattle.ws_link_laws.specs.Sound.{IsLink, IsFree, IsThere}
 

@@ -30,7 +30,7 @@ use Rattle.ws_steps.specs.Run.{Entry, run}
 use Rattle.ws_steps.specs.Slots.{Slots, Stream, empty, has_source, has_writable, has_signal, owner_at, byte_at, source_at, writable_at, transform_at, pipe_at}
 use Rattle.ws_steps.specs.Writable as writable
 use Rattle.ws_flow.specs.Told.{Mark, Open, Closed as ToldClosed, Broken, Lost}
-use Rattle.ws_pipe_laws.specs.PipeReads.{is_of, in_stream, in_streams}
+use Rattle.ws_pipe_laws.specs.pipes.PipeReads.{is_of, in_stream, in_streams}
 use Rattle.ws_link_laws.specs.Link.{todo_of}
 
 -- the realm is one to which calls, jobs and its host led

@@ -25,13 +25,13 @@ use Rattle.ws_laws.proofs.Tables.{is_same-refl, same_id, readable_acts}
 use Rattle.ws_laws.proofs.Walker.{Stays, run-stays}
 use Rattle.ws_laws.proofs.Weights.{weigh-watch}
 use Rattle.ws_writable_laws.proofs.Shape.{of_reaction, weight}
-use Rattle.ws_pipe_laws.specs.PipeReads.{one_if}
-use Rattle.ws_pipe_write_laws.proofs.Counts.{same_weight}
+use Rattle.ws_pipe_laws.specs.pipes.PipeReads.{one_if}
+use Rattle.ws_pipe_laws.proofs.writes.Counts.{same_weight}
 use Rattle.ws_link_laws.specs.Laws.{all_leave}
 use Rattle.ws_link_laws.specs.Link.{OfEnd, giver_by, giver_at}
 use Rattle.ws_link_laws.proofs.Steps.{place-append}
-use Rattle.ws_cross_laws.proofs.Posting.{total, total-append}
-use Rattle.ws_cross_laws.proofs.Pulls.{row-same, own-slots}
+use Rattle.ws_tee_port_laws.proofs.ports.Posting.{total, total-append}
+use Rattle.ws_tee_port_laws.proofs.ports.Pulls.{row-same, own-slots}
 use Rattle.ws_laws.proofs.Apart.{row-streams}
 use Rattle.ws_chain_laws.specs.Chain.{Target, FromPort, source_of, dest_of, source_port}
 use Rattle.ws_chain_laws.specs.Opening.{chained, opening, piping, signal_of}

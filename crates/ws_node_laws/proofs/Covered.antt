@@ -46,10 +46,10 @@ use Rattle.ws_laws.proofs.Truth.{and_left, and_right, false_true}
 use Rattle.ws_laws.proofs.Weights.{weigh-fresh, weigh-watch}
 use Rattle.ws_room_laws.proofs.Turns.{performed-kept}
 use Rattle.ws_writable_laws.proofs.Shape.{of_reaction, weight}
-use Rattle.ws_pipe_laws.specs.PipeReads.{is_of, in_requests, in_stream, in_streams, one_if}
-use Rattle.ws_pipe_laws.proofs.PassingRuns.{reads_now}
-use Rattle.ws_pipe_laws.proofs.Reading.{of_effect}
-use Rattle.ws_pipe_write_laws.proofs.Counts.{same_weight}
+use Rattle.ws_pipe_laws.specs.pipes.PipeReads.{is_of, in_requests, in_stream, in_streams, one_if}
+use Rattle.ws_pipe_laws.proofs.pipes.PassingRuns.{reads_now}
+use Rattle.ws_pipe_laws.proofs.pipes.Reading.{of_effect}
+use Rattle.ws_pipe_laws.proofs.writes.Counts.{same_weight}
 use Rattle.ws_link_laws.specs.Laws.{entry_leaves, all_leave}
 use Rattle.ws_link_laws.specs.Link.{OfEnd, giver_by, giver_at, leaves}
 use Rattle.ws_link_laws.specs.Sound.{Owned, IsLink}
@@ -59,12 +59,12 @@ use Rattle.ws_link_laws.proofs.Steps as steps
 use Rattle.ws_link_laws.proofs.Steps.{stream_at, source_there, grown-source, link-sound}
 use Rattle.ws_link_laws.proofs.Turns.{row-turned}
 use Rattle.ws_link_laws.proofs.Keeps.{entry-keeps}
-use Rattle.ws_cross_laws.proofs.Once.{NotMine, row-leaves, row-mine, no-mine, by-port}
-use Rattle.ws_cross_laws.proofs.Posting.{total, total-append, is_same_port-refl, given, given_first, port_acts}
-use Rattle.ws_cross_laws.proofs.Pulls.{asked_of, settles_of, pulled, pulled-append, row-same, own-slots, own-caused, row-pulled, bytes-idle}
-use Rattle.ws_cross_laws.proofs.Reading.{is_idle, pulls_of, pulls}
-use Rattle.ws_cross_laws.proofs.Told.{posted, posted-append, next-events, call-events, watch-posted}
-use Rattle.ws_cross_laws.proofs.Touching.{NoTouch, NoDelivery, NotHosts, row-untouched, call-untouched, job-untouched}
+use Rattle.ws_tee_port_laws.proofs.ports.Once.{NotMine, row-leaves, row-mine, no-mine, by-port}
+use Rattle.ws_tee_port_laws.proofs.ports.Posting.{total, total-append, is_same_port-refl, given, given_first, port_acts}
+use Rattle.ws_tee_port_laws.proofs.ports.Pulls.{asked_of, settles_of, pulled, pulled-append, row-same, own-slots, own-caused, row-pulled, bytes-idle}
+use Rattle.ws_tee_port_laws.proofs.ports.Reading.{is_idle, pulls_of, pulls}
+use Rattle.ws_tee_port_laws.proofs.ports.Told.{posted, posted-append, next-events, call-events, watch-posted}
+use Rattle.ws_tee_port_laws.proofs.ports.Touching.{NoTouch, NoDelivery, NotHosts, row-untouched, call-untouched, job-untouched}
 use Rattle.ws_node_laws.specs.Asks.{is_pull, pulls_in, may_ask}
 use Rattle.ws_node_laws.specs.Covered.{starting, brought, entry_brought, run_brought, EachEndAsksInTurn}
 use Rattle.ws_node_laws.proofs.Asks.{Good, IsCovered, lets, starts, operation-asks, one_most}

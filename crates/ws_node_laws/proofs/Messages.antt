@@ -19,7 +19,7 @@ use Rattle.ws_flow.specs.Told.{Told, Open, told, then_told}
 use Rattle.ws_flow.proofs.Told.{then_assoc, then_empty}
 use Rattle.ws_link_laws.specs.Link as link
 use Rattle.ws_link_laws.specs.Link.{OfPort, silence, heard_post, heard_of}
-use Rattle.ws_cross_laws.proofs.Told.{posted-append}
+use Rattle.ws_tee_port_laws.proofs.ports.Told.{posted-append}
 use Rattle.ws_chain_laws.specs.Chain.{Origin, FromPort, ToPort, source_port, sink_port, call_enters}
 use Rattle.ws_chain_laws.specs.Laws.{next_enters, next_heard}
 use Rattle.ws_chain_laws.specs.Runs.{brought_to, heard_from}

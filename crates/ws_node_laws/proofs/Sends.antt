@@ -15,7 +15,7 @@ use Rattle.ws_steps.specs.Run.{Entry, Called, Worked, Heard, step, run}
 use Rattle.ws_steps.specs.Slots.{Slots, Stream, ReadableStream, ByteStream, WritableStream, empty, has_port, port_at, as_port, is_live, owner_at, owner_of, is_writable_stream}
 use Rattle.ws_laws.proofs.Ended.{Ended, PortShape, port_shape, run-ended}
 use Rattle.ws_laws.proofs.Shapes.{WritableOf, stream_shape}
-use Rattle.ws_cross_laws.proofs.Ends.{each_readable_end_posts, each_writable_end_posts}
+use Rattle.ws_tee_port_laws.proofs.ports.Ends.{each_readable_end_posts, each_writable_end_posts}
 use Rattle.ws_chain_laws.specs.Chain.{Origin, FromChunks, FromBytes, FromPort, Target, ToSink, ToPort, source_of, dest_of, source_port, sink_port}
 use Rattle.ws_chain_laws.specs.Opening.{source_call, sink_call, transforms, signals, signal_of, piping, pipes_from, opening, chained}
 use Rattle.ws_chain_laws.proofs.Links.{link-at, takes-at}

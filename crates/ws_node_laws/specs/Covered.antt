@@ -11,8 +11,8 @@ use Rattle.ws_steps.specs.Histories.{is_same, run_events}
 use Rattle.ws_steps.specs.PortHistory.{is_same_port, posted_in, chunk_in}
 use Rattle.ws_steps.specs.Run.{Entry, Called, Worked, Heard, run}
 use Rattle.ws_steps.specs.Slots.{Slots, empty, most_streams, readable_at, has_source}
-use Rattle.ws_pipe_laws.specs.PipeReads.{one_if}
-use Rattle.ws_pipe_laws.specs.PipeWrites.{outstanding}
+use Rattle.ws_pipe_laws.specs.pipes.PipeReads.{one_if}
+use Rattle.ws_pipe_laws.specs.pipes.PipeWrites.{outstanding}
 use Rattle.ws_link_laws.specs.Laws.{all_leave}
 use Rattle.ws_link_laws.specs.Link.{OfEnd, giver_at}
 use Rattle.ws_link_laws.specs.Sound.{IsLink}

@@ -1,5 +1,2 @@
-pub mod PipeHistory
-pub mod PipeMoves
-pub mod PipeReads
-pub mod PipeWrites
-pub mod SignalLaws
+pub mod pipes
+pub mod locks

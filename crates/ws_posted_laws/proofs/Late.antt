@@ -45,10 +45,10 @@ use Rattle.ws_laws.proofs.TransformDoes.{TransformCauses}
 use Rattle.ws_laws.proofs.Walker.{Stays}
 use Rattle.ws_room_laws.proofs.Turns.{performed-kept}
 use Rattle.ws_reason_laws.proofs.Known.{Badness}
-use Rattle.ws_cross_laws.proofs.Fitting.{IsBegun, call-begun, job-begun}
-use Rattle.ws_cross_laws.proofs.Once.{row-leaves, row-mine, by-port}
-use Rattle.ws_cross_laws.proofs.Posting.{given, given_first}
-use Rattle.ws_cross_laws.proofs.Told.{posted, posted-append, call-events, next-events, watch-posted}
+use Rattle.ws_tee_port_laws.proofs.ports.Fitting.{IsBegun, call-begun, job-begun}
+use Rattle.ws_tee_port_laws.proofs.ports.Once.{row-leaves, row-mine, by-port}
+use Rattle.ws_tee_port_laws.proofs.ports.Posting.{given, given_first}
+use Rattle.ws_tee_port_laws.proofs.ports.Told.{posted, posted-append, call-events, next-events, watch-posted}
 use Rattle.ws_posted_laws.proofs.Posted.{bad_in, bad_in-append, some_same, MayHere, Calm, Fine, row-caused, begun-calm, given-good, begun-port, taken-first}
 use Rattle.ws_posted_laws.proofs.Stopped.{pend, aborts, Down, operation-down, needed-down}
 use Rattle.ws_steps.specs.declared.calls.Call.TheVariants.{Deliver}
@@ -65,7 +65,7 @@ use Rattle.ws_laws.proofs.Apart.{row-streams}
 use Rattle.ws_laws.proofs.Ended.{ended-stays}
 use Rattle.ws_laws.proofs.Tables.{either, writable_acts, writable_there, on_source-writable, on_byte-writable, on_writable-same, on_writable-other}
 use Rattle.ws_laws.proofs.Walker.{run-stays}
-use Rattle.ws_cross_laws.proofs.Posting.{port_acts}
+use Rattle.ws_tee_port_laws.proofs.ports.Posting.{port_acts}
 
 module _ (bad : Badness) (me : PipeId) (c : PortId) (i : StreamId) (up : Plain) (cloned : bad.of data_clone ≡ 0) where
   abbrev pub C : Effect → Type 0

@@ -19,7 +19,7 @@ use Rattle.ws_reason_laws.proofs.Halved.{halved-end}
 use Rattle.ws_reason_laws.proofs.Known.{Badness, class, teed_at, teed-at}
 use Rattle.ws_reason_laws.proofs.Runs.{Whole}
 use Rattle.ws_reason_laws.proofs.Weights.{Class, minds}
-use Rattle.ws_cross_laws.proofs.Told.{posted-append}
+use Rattle.ws_tee_port_laws.proofs.ports.Told.{posted-append}
 use Rattle.ws_posted_laws.specs.Posted.{EachPostedErrorIsOlder}
 use Rattle.ws_posted_laws.proofs.Posted.{bad_in, bad_in-append, among-bad, none-bad, here}
 use Rattle.ws_posted_laws.proofs.Stopped.{pend}

@@ -3,5 +3,5 @@ pub use ws_byte_laws::{
     each_byte_step, each_byte_stream_is_lawful, each_byte_stream_is_sound,
     each_throwing_close_errs, entered_bytes_were_accepted,
 };
-pub use ws_lock_laws::each_byte_stream_is_meant;
+pub use ws_pipe_laws::locks::each_byte_stream_is_meant;
 pub use ws_room_read_laws::each_room_is_whole;

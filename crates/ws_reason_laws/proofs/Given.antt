@@ -26,7 +26,7 @@ use Rattle.ws_steps.specs.Run.{Entry, Called, step, run, reply_to}
 use Rattle.ws_steps.specs.Slots.{Slots, empty}
 use Rattle.ws_steps.specs.Tee as tee
 use Rattle.ws_laws.proofs.Shapes.{tee_shape}
-use Rattle.ws_pipe_laws.proofs.Kept.{each_pipe_stays}
+use Rattle.ws_pipe_laws.proofs.pipes.Kept.{each_pipe_stays}
 use Rattle.ws_reason_laws.specs.Origins.{through, by_ports, origins, AreUnlocked, IsOpen, EachReasonHasAnOrigin}
 use Rattle.ws_reason_laws.specs.Reasons.{failures, is_pair, NeedsTee}
 use Rattle.ws_laws.proofs.Halves.{halved-empty}

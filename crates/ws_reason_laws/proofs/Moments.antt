@@ -27,7 +27,7 @@ use Rattle.ws_laws.proofs.Apart.{row-streams}
 use Rattle.ws_laws.proofs.Shapes.{StreamShape, WritableOf, stream_shape, row-stream_shapes}
 use Rattle.ws_laws.proofs.Tables.{either, same_id, writable_acts, on_source-writable, on_byte-writable, on_writable-same, on_writable-other, place_last, place_before, eq_numbers, unequal_numbers}
 use Rattle.ws_laws.proofs.Truth.{or_right}
-use Rattle.ws_lock_laws.proofs.Runs.{Locked, locked-stays, run-locked}
+use Rattle.ws_pipe_laws.proofs.locks.Runs.{Locked, locked-stays, run-locked}
 use Rattle.ws_promise_laws.proofs.Acting.{EachWaits, waits-heard, waits-expects}
 use Rattle.ws_promise_laws.proofs.Begins.{begin-sound, job-sound}
 use Rattle.ws_promise_laws.proofs.Reacting.{holds-watch, holds-told}

@@ -24,9 +24,9 @@ use Rattle.ws_steps.specs.Writable.{is_closed, is_closing}
 use Rattle.ws_steps.specs.WritableLooks as writable_looks
 use Rattle.ws_laws.proofs.Shapes.{stream_shape}
 use Rattle.ws_laws.proofs.Tables.{either, eq_numbers}
-use Rattle.ws_pipe_laws.specs.PipeMoves.{MakesPipes, MakesNone, MakesOne, SendsReadable, SendsWritable}
-use Rattle.ws_pipe_laws.proofs.Courses.{appended}
-use Rattle.ws_pipe_laws.proofs.Made.{each_pipe_begins_flowing}
+use Rattle.ws_pipe_laws.specs.pipes.PipeMoves.{MakesPipes, MakesNone, MakesOne, SendsReadable, SendsWritable}
+use Rattle.ws_pipe_laws.proofs.pipes.Courses.{appended}
+use Rattle.ws_pipe_laws.proofs.pipes.Made.{each_pipe_begins_flowing}
 use Rattle.ws_writable_laws.proofs.Shape.{all}
 use Rattle.ws_reason_laws.specs.Origins.{is_half, to_half, by_pipe, through_of}
 use Rattle.ws_reason_laws.proofs.Asking.{asks, goes}

@@ -27,14 +27,14 @@ use Rattle.ws_laws.proofs.PipeDoes.{PipeCauses, pipe-causes}
 use Rattle.ws_laws.proofs.Apart.{IsNoPipe, row-pipes, row-streams}
 use Rattle.ws_laws.proofs.Causes.{Causes, row-causes}
 use Rattle.ws_laws.proofs.Tables.{either, same_id, is_same-refl, eq_numbers, unequal_numbers, writable_acts, on_source-writable, on_byte-writable, on_writable-same, on_writable-other, place_before, no_stream}
-use Rattle.ws_lock_laws.specs.Locks.{Writing, holds}
-use Rattle.ws_lock_laws.specs.LockLaws.{spares, all_spare}
-use Rattle.ws_lock_laws.proofs.Holding.{pipes-two}
-use Rattle.ws_lock_laws.proofs.Rows.{is_there}
-use Rattle.ws_pipe_laws.specs.PipeHistory.{is_over}
-use Rattle.ws_pipe_laws.specs.PipeReads as reads
-use Rattle.ws_pipe_laws.proofs.Courses.{place_same, appended}
-use Rattle.ws_pipe_laws.proofs.Kept.{each_pipe_keeps_its_ends}
+use Rattle.ws_pipe_laws.specs.locks.Locks.{Writing, holds}
+use Rattle.ws_pipe_laws.specs.locks.LockLaws.{spares, all_spare}
+use Rattle.ws_pipe_laws.proofs.locks.Holding.{pipes-two}
+use Rattle.ws_pipe_laws.proofs.locks.Rows.{is_there}
+use Rattle.ws_pipe_laws.specs.pipes.PipeHistory.{is_over}
+use Rattle.ws_pipe_laws.specs.pipes.PipeReads as reads
+use Rattle.ws_pipe_laws.proofs.pipes.Courses.{place_same, appended}
+use Rattle.ws_pipe_laws.proofs.pipes.Kept.{each_pipe_keeps_its_ends}
 use Rattle.ws_writable_laws.proofs.Shape.{one_if, all, all-append}
 use Rattle.ws_reason_laws.proofs.Asking.{is_asking, asks, goes, operation-quiet, operation-none}
 use Rattle.ws_reason_laws.proofs.Closings.{Opened, Asks, Flies, operation-opened}

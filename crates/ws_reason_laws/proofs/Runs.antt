@@ -30,9 +30,9 @@ use Rattle.ws_laws.proofs.Ended.{Ended, ended-stays, PortShape, port_shape, row-
 use Rattle.ws_laws.proofs.Shapes.{map-there}
 use Rattle.ws_reason_laws.proofs.Ports.{Clones}
 use Rattle.ws_laws.proofs.Walker.{performed-goes, untold}
-use Rattle.ws_lock_laws.specs.LockLaws.{all_spare}
-use Rattle.ws_lock_laws.proofs.Owning.{each_pipe_owns_its_ends}
-use Rattle.ws_pipe_laws.specs.PipeHistory.{is_over}
+use Rattle.ws_pipe_laws.specs.locks.LockLaws.{all_spare}
+use Rattle.ws_pipe_laws.proofs.locks.Owning.{each_pipe_owns_its_ends}
+use Rattle.ws_pipe_laws.specs.pipes.PipeHistory.{is_over}
 use Rattle.ws_reason_laws.specs.Origins.{through_of, through}
 use Rattle.ws_reason_laws.specs.Reasons.{failure_of, failures, erred_by}
 use Rattle.ws_reason_laws.proofs.Answers.{bad_call, bad-append, begun-kinds, begun-good}

@@ -22,11 +22,11 @@ use Rattle.ws_laws.proofs.Halves.{step-tee_shapes, run-among_tees}
 use Rattle.ws_laws.proofs.Shapes.{TeeShape, tee_shape, tee_shapes, row-tee_shapes}
 use Rattle.ws_laws.proofs.Tables.{is_same-refl}
 use Rattle.ws_readable_laws.proofs.Ports.{run-among_ports, called-port_shapes}
-use Rattle.ws_pipe_laws.specs.PipeReads.{one_if}
-use Rattle.ws_lock_laws.specs.Locks.{Reading, in_tees}
-use Rattle.ws_lock_laws.proofs.Agenda.{goes}
-use Rattle.ws_lock_laws.proofs.Rows.{is_there}
-use Rattle.ws_lock_laws.proofs.Runs.{Locked}
+use Rattle.ws_pipe_laws.specs.pipes.PipeReads.{one_if}
+use Rattle.ws_pipe_laws.specs.locks.Locks.{Reading, in_tees}
+use Rattle.ws_pipe_laws.proofs.locks.Agenda.{goes}
+use Rattle.ws_pipe_laws.proofs.locks.Rows.{is_there}
+use Rattle.ws_pipe_laws.proofs.locks.Runs.{Locked}
 use Rattle.ws_reason_laws.proofs.Readables.{lets_go}
 
 -- the tees' sources are told by their shapes

@@ -19,7 +19,7 @@ use Rattle.ws_laws.proofs.Truth.{and_left, and_right}
 use Rattle.ws_byte_laws.proofs.Given.{starting}
 use Rattle.ws_byte_laws.proofs.Law.{meant}
 use Rattle.ws_byte_laws.proofs.Leaving.{initialized_by}
-use Rattle.ws_lock_laws.proofs.ByteReaders as readers
+use Rattle.ws_pipe_laws.proofs.locks.ByteReaders as readers
 use Rattle.ws_room_read_laws.proofs.Pairs.{behind, AllWhole, IsFair, Wants, Pairs, pairs-length, pairs-none, AllGive, Committed, committed}
 use Rattle.ws_room_read_laws.proofs.Fair.{no_reader, AreFair, Even, Fair, even-same, causes-fair, pull-fair, error-fair, release-fair, initialize-fair}
 use Rattle.ws_room_read_laws.proofs.Readings.{good-fit, enqueue-fair, respond-fair, waits-fair, from_queue-fair, closing-fair, cancel-fair}

@@ -36,11 +36,11 @@ use Rattle.ws_laws.proofs.TransformDoes.{TransformCauses}
 use Rattle.ws_laws.proofs.Walker.{Stays}
 use Rattle.ws_byte_laws.proofs.Sound as sound
 use Rattle.ws_byte_laws.proofs.Steps.{IsNoByte, row-other, AreBehind, begin-behind}
-use Rattle.ws_pipe_laws.specs.PipeReads.{one_if}
-use Rattle.ws_lock_laws.specs.Locks.{Reading, has_lock, is_locked}
-use Rattle.ws_lock_laws.proofs.Holding.{locks-there}
-use Rattle.ws_lock_laws.proofs.Rows.{Balanced}
-use Rattle.ws_lock_laws.proofs.Runs.{Locked, locked-stays}
+use Rattle.ws_pipe_laws.specs.pipes.PipeReads.{one_if}
+use Rattle.ws_pipe_laws.specs.locks.Locks.{Reading, has_lock, is_locked}
+use Rattle.ws_pipe_laws.proofs.locks.Holding.{locks-there}
+use Rattle.ws_pipe_laws.proofs.locks.Rows.{Balanced}
+use Rattle.ws_pipe_laws.proofs.locks.Runs.{Locked, locked-stays}
 use Rattle.ws_room_read_laws.proofs.Pairs.{IsFair}
 use Rattle.ws_room_read_laws.proofs.Fair.{AreFair, Even, Fair}
 use Rattle.ws_room_read_laws.proofs.Operations.{weight, weighs, all-light, readable-fair, bytes-fair, IsRead}

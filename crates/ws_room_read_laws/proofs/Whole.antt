@@ -30,7 +30,7 @@ use Rattle.ws_promise_laws.proofs.Realm as tokens
 use Rattle.ws_promise_laws.proofs.Runs as promise_runs
 use Rattle.ws_promise_laws.proofs.Streams.{in_requests}
 use Rattle.ws_promise_laws.proofs.Tokens.{of_request}
-use Rattle.ws_lock_laws.proofs.Runs.{run-locked}
+use Rattle.ws_pipe_laws.proofs.locks.Runs.{run-locked}
 use Rattle.ws_room_read_laws.proofs.Filled.{Fills}
 use Rattle.ws_room_read_laws.proofs.Pairs.{behind, Pairs}
 use Rattle.ws_room_read_laws.proofs.Fair.{AreFair}

@@ -31,7 +31,7 @@ use Rattle.ws_steps.specs.Run.{Entry, Heard}
 use Rattle.ws_chain_laws.specs.Chain.{Target, behind_at}
 use Rattle.ws_chain_laws.specs.Nodes.{by_sink, only_at}
 use Rattle.ws_chain_laws.proofs.Nodes.{each_event_is_heard_at_one_link, each_nodes_call_brings}
-use Rattle.ws_host_laws.specs.HostCalls.{IsItsCall, called}
+use Rattle.ws_end_laws.specs.hosts.HostCalls.{IsItsCall, called}
 use Rattle.ws_link_laws.specs.Link.{silence}
 use Rattle.ws_realm.specs.Seen.{SeenRealm}
 use Rattle.ws_runner.specs.declared.node.Abort.{Abort}

@@ -13,7 +13,7 @@ use Rattle.ws_steps.specs.declared.calls.Call.TheVariants.{Settle}
 use Rattle.ws_steps.specs.declared.calls.HostCall.{HostCall}
 use Rattle.ws_steps.specs.declared.calls.HostCall.TheVariants.{Close, Flush}
 use Rattle.ws_steps.specs.Run.{Entry}
-use Rattle.ws_host_laws.specs.HostCalls.{called, settles_well}
+use Rattle.ws_end_laws.specs.hosts.HostCalls.{called, settles_well}
 use Rattle.ws_reason_laws.specs.Reasons.{failure_of}
 use Rattle.ws_runner.specs.declared.node.Node.{Node}
 use Rattle.ws_runner.specs.declared.node.Output.TheVariants as output

@@ -18,10 +18,10 @@ use Rattle.ws_steps.specs.Pipes as pipe
 use Rattle.ws_steps.specs.Promises.{outcome_at, rank_at}
 use Rattle.ws_steps.specs.Run.{Entry, run}
 use Rattle.ws_steps.specs.Slots.{Slots, empty, pipe_at}
-use Rattle.ws_end_laws.specs.PromiseEnds.{IsOpenUntilTheEnd, outcome_of_end}
-use Rattle.ws_end_laws.proofs.PromiseEnds.{each_promise_is_open_until_the_end}
-use Rattle.ws_pipe_laws.specs.PipeHistory.{is_over, run_course}
-use Rattle.ws_host_laws.specs.HostCalls.{WasSettledWell}
+use Rattle.ws_end_laws.specs.ends.PromiseEnds.{IsOpenUntilTheEnd, outcome_of_end}
+use Rattle.ws_end_laws.proofs.ends.PromiseEnds.{each_promise_is_open_until_the_end}
+use Rattle.ws_pipe_laws.specs.pipes.PipeHistory.{is_over, run_course}
+use Rattle.ws_end_laws.specs.hosts.HostCalls.{WasSettledWell}
 use Rattle.ws_chain_laws.specs.Chain.{dest_of, link_of}
 use Rattle.ws_chain_laws.proofs.Links.{link-at}
 use Rattle.ws_realm.specs.Seen.{outcome_named, where_named}

@@ -10,8 +10,8 @@ use Rattle.ws_steps.specs.declared.calls.HostCall.{HostCall}
 use Rattle.ws_steps.specs.declared.calls.HostCall.TheVariants.{Close, Flush}
 use Rattle.ws_steps.specs.Run.{Entry, Called, Worked, Heard, run, step}
 use Rattle.ws_steps.specs.Slots.{Slots}
-use Rattle.ws_host_laws.proofs.Called.{place-grows, each_event_is_its_call}
-use Rattle.ws_host_laws.specs.HostCalls.{called, settles_well}
+use Rattle.ws_end_laws.proofs.hosts.Called.{place-grows, each_event_is_its_call}
+use Rattle.ws_end_laws.specs.hosts.HostCalls.{called, settles_well}
 use Rattle.ws_reason_laws.specs.Reasons.{failures, failure_of}
 use Rattle.ws_runner.specs.declared.node.Output.{Output}
 use Rattle.ws_runner.specs.declared.node.Output.TheVariants as output

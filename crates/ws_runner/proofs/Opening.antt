@@ -29,7 +29,7 @@ use Rattle.ws_steps.specs.Promises.{outcome_at, rank_at}
 use Rattle.ws_steps.specs.Run.{Entry, Called, Worked, Heard, run, performed_in}
 use Rattle.ws_steps.specs.Slots.{Slots, empty, most_streams}
 use Rattle.ws_laws.proofs.Ages.{each_age_counts}
-use Rattle.ws_host_laws.specs.HostCalls.{settles_well}
+use Rattle.ws_end_laws.specs.hosts.HostCalls.{settles_well}
 use Rattle.ws_link_laws.specs.Link.{silence}
 use Rattle.ws_reason_laws.specs.Origins.{through, through_of}
 use Rattle.ws_reason_laws.proofs.Brought.{through-append}

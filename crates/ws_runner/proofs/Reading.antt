@@ -29,7 +29,7 @@ use Rattle.ws_steps.specs.declared.calls.Call.TheVariants.{Enqueue, Finish, Fail
 use Rattle.ws_steps.specs.declared.calls.HostCall.{HostCall}
 use Rattle.ws_steps.specs.declared.calls.HostCall.TheVariants.{Pull}
 use Rattle.ws_steps.specs.Run.{Entry}
-use Rattle.ws_host_laws.specs.HostCalls.{called, settles_well}
+use Rattle.ws_end_laws.specs.hosts.HostCalls.{called, settles_well}
 use Rattle.ws_link_laws.specs.Link.{lets_in, silence}
 use Rattle.ws_chain_laws.specs.Chain.{Origin, FromBytes, giver, source_of, behind_at}
 use Rattle.ws_chain_laws.specs.Nodes.{finishes, only_at}

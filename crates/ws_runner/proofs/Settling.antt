@@ -22,7 +22,7 @@ use Rattle.ws_steps.specs.declared.calls.HostCall.{HostCall}
 use Rattle.ws_steps.specs.declared.calls.HostCall.TheVariants.{Close, Flush}
 use Rattle.ws_steps.specs.Run.{Entry}
 use Rattle.ws_chain_laws.specs.Chain.{source_of, behind_at}
-use Rattle.ws_host_laws.specs.HostCalls.{called}
+use Rattle.ws_end_laws.specs.hosts.HostCalls.{called}
 use Rattle.ws_reason_laws.specs.Reasons.{failure_of}
 use Rattle.ws_runner.specs.declared.node.Node.{Node}
 use Rattle.ws_runner.specs.Moves.{Asks, Enqueues, IsAt, PutsAll, settles_by}

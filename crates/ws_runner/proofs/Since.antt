@@ -28,8 +28,8 @@ use Rattle.ws_steps.specs.Promises.{next_job}
 use Rattle.ws_steps.specs.Run.{Entry, Called, Worked, Heard, run, step, after_call, after_job, after_event, first_event, jobs_in_a_row, performed_in}
 use Rattle.ws_steps.specs.Slots.{Slots, empty}
 use Rattle.ws_laws.proofs.Ages.{called-age, each_age_counts}
-use Rattle.ws_host_laws.specs.HostCalls.{called, settles_well, AllEvents, IsItsCall}
-use Rattle.ws_host_laws.proofs.Called.{each_event_is_its_call}
+use Rattle.ws_end_laws.specs.hosts.HostCalls.{called, settles_well, AllEvents, IsItsCall}
+use Rattle.ws_end_laws.proofs.hosts.Called.{each_event_is_its_call}
 use Rattle.ws_link_laws.specs.Link.{silence}
 use Rattle.ws_chain_laws.specs.Chain.{transform_of, source_of, behind_at, IsChain}
 use Rattle.ws_chain_laws.specs.Laws.{next_enters, next_heard, KeepsBehind}

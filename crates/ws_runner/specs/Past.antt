@@ -20,7 +20,7 @@ use Rattle.ws_stages.specs.State.{State, is_live}
 use Rattle.ws_steps.specs.declared.calls.HostCall.TheVariants.{Pull, Close, Flush}
 use Rattle.ws_steps.specs.Run.{Entry, Called, run}
 use Rattle.ws_steps.specs.Slots.{empty}
-use Rattle.ws_host_laws.specs.HostCalls.{called, settles_well}
+use Rattle.ws_end_laws.specs.hosts.HostCalls.{called, settles_well}
 use Rattle.ws_chain_laws.specs.Chain.{FromBytes, ToSink, source_of, dest_of, behind_at}
 use Rattle.ws_chain_laws.specs.Opening.{signal_of}
 use Rattle.ws_realm.specs.Seen.{oldest}

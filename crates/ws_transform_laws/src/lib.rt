@@ -1,6 +1,6 @@
 //! Laws of what goes through transform streams, over every run.
 //!
-//! It shows too that the stream at a writable end of a port is lawful, which `ws_cross_laws` uses.
+//! It shows too that the stream at a writable end of a port is lawful, which `ws_tee_port_laws` uses.
 #![tactic(auto)]
 
 ghost use Rattle.ws_transform_laws.specs.HalfLaws.{EachHalfIsLawful, EachHalfStep};

@@ -27,10 +27,10 @@ use Rattle.ws_laws.proofs.Weights.{of_reactions, of_entries, of_job, of_jobs, we
 use Rattle.ws_writable_laws.proofs.Agenda.{Kept}
 use Rattle.ws_writable_laws.proofs.Runs as writable_runs
 use Rattle.ws_writable_laws.proofs.Shape.{of_reaction, is_start, is_write, one_if}
-use Rattle.ws_host_laws.specs.HostCalls.{effect_called}
-use Rattle.ws_host_laws.proofs.Called.{Numbered, numbered-goes, numbered-rests, place-last}
-use Rattle.ws_host_laws.proofs.Hosted.{hosted-alone}
-use Rattle.ws_host_laws.proofs.Plain.{host_added, row-hosts}
+use Rattle.ws_end_laws.specs.hosts.HostCalls.{effect_called}
+use Rattle.ws_end_laws.proofs.hosts.Called.{Numbered, numbered-goes, numbered-rests, place-last}
+use Rattle.ws_end_laws.proofs.hosts.Hosted.{hosted-alone}
+use Rattle.ws_end_laws.proofs.hosts.Plain.{host_added, row-hosts}
 use Rattle.ws_transform_laws.proofs.Waited.{changing, all_waiting}
 use Rattle.ws_transform_laws.proofs.Waiting.{Waits, queued-watch, waits-changes, waits-next, waits-watch, waits_from}
 use Rattle.ws_want_laws.specs.Answers.{is_start_of, is_transform_of, is_flush_of, has_open, has_flushed, is_answering}

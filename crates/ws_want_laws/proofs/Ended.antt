@@ -24,10 +24,10 @@ use Rattle.ws_laws.proofs.Walker.{GoesUntold, RestsUntold}
 use Rattle.ws_laws.proofs.Weights.{weigh}
 use Rattle.ws_writable_laws.proofs.Shape.{is_abort, is_write, leads_to, of_use}
 use Rattle.ws_write_laws.proofs.Runs as write_runs
-use Rattle.ws_host_laws.specs.HostCalls.{effect_called}
-use Rattle.ws_host_laws.proofs.Called.{place-last}
-use Rattle.ws_host_laws.proofs.Hosted.{hosted-alone}
-use Rattle.ws_host_laws.proofs.Plain.{host_added, row-hosts}
+use Rattle.ws_end_laws.specs.hosts.HostCalls.{effect_called}
+use Rattle.ws_end_laws.proofs.hosts.Called.{place-last}
+use Rattle.ws_end_laws.proofs.hosts.Hosted.{hosted-alone}
+use Rattle.ws_end_laws.proofs.hosts.Plain.{host_added, row-hosts}
 use Rattle.ws_transform_laws.proofs.Cancelling.{is_cancelled}
 use Rattle.ws_transform_laws.proofs.Shutting.{can}
 use Rattle.ws_transform_laws.proofs.Waited.{all_waiting}

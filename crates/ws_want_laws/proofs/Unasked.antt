@@ -20,7 +20,7 @@ use Rattle.ws_laws.proofs.Halves.{Halved, halved-empty, run-halved, run-among}
 use Rattle.ws_laws.proofs.Lists.{append_none}
 use Rattle.ws_laws.proofs.Shapes.{StreamShape, ReadableOf, BytesOf, TransformShape, stream_shape, stream_shapes, transform_shapes, transform_shape, map-there}
 use Rattle.ws_laws.proofs.Walker as walker
-use Rattle.ws_host_laws.specs.HostCalls.{step_called, run_called, called}
+use Rattle.ws_end_laws.specs.hosts.HostCalls.{step_called, run_called, called}
 use Rattle.ws_transform_laws.proofs.Told.{along-map}
 use Rattle.ws_want_laws.specs.Answers.{is_answering, step_unasked, unasked_since, unasked, is_cancel_of, has_open, is_at_work}
 use Rattle.ws_want_laws.specs.Waits.{write_waits, step_meanwhile, run_meanwhile}

@@ -10,7 +10,7 @@ use Rattle.ws_steps.specs.Histories.{is_same}
 use Rattle.ws_steps.specs.ReadableHistory.{accepted_in_step}
 use Rattle.ws_steps.specs.Run.{Entry, step}
 use Rattle.ws_steps.specs.Slots.{Slots, empty}
-use Rattle.ws_host_laws.specs.HostCalls.{step_called}
+use Rattle.ws_end_laws.specs.hosts.HostCalls.{step_called}
 
 -- whether a host call is to start the transform stream with readable half r
 abbrev pub is_start_of : StreamId → HostCall → Bool

@@ -7,7 +7,7 @@ use Rattle.ws_steps.specs.Slots.{Slots, empty, readable_at}
 use Rattle.ws_steps.specs.ReadableHistory.{run_reads, step_reads}
 use Rattle.ws_steps.specs.Transform as transform
 use Rattle.ws_transform_laws.specs.TransformHistory.{goes_on_pressed, step_unwanted, step_unread}
-use Rattle.ws_host_laws.specs.HostCalls.{called}
+use Rattle.ws_end_laws.specs.hosts.HostCalls.{called}
 use Rattle.ws_want_laws.specs.Answers.{is_answering, is_at_work, unasked}
 use Rattle.ws_want_laws.specs.Waits.{write_waits, run_meanwhile}
 

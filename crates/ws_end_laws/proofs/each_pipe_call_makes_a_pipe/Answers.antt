@@ -1,5 +1,0 @@
-use Rattle.ws_end_laws.proofs.each_pipe_call_makes_a_pipe.Goals as goal
-use Rattle.ws_end_laws.proofs.PipeCalls as laws
-
-pub returns : goal.returns
-returns c = laws.each_pipe_call_makes_a_pipe

@@ -1,5 +1,0 @@
-use Rattle.ws_end_laws.proofs.each_pipe_counts_its_parts.Goals as goal
-use Rattle.ws_end_laws.proofs.Parts as laws
-
-pub returns : goal.returns
-returns c = laws.each_pipe_counts_its_parts

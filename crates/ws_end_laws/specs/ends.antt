@@ -1,0 +1,4 @@
+pub mod PassedAll
+pub mod PipeCalls
+pub mod PipeWaits
+pub mod PromiseEnds

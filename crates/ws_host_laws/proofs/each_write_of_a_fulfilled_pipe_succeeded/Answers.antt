@@ -1,5 +1,0 @@
-use Rattle.ws_host_laws.proofs.each_write_of_a_fulfilled_pipe_succeeded.Goals as goal
-use Rattle.ws_host_laws.proofs.Fulfilled as laws
-
-pub returns : goal.returns
-returns c = laws.each_write_of_a_fulfilled_pipe_succeeded

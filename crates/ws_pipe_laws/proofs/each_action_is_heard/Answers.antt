@@ -1,5 +1,0 @@
-use Rattle.ws_pipe_laws.proofs.each_action_is_heard.Goals as goal
-use Rattle.ws_pipe_laws.proofs.Begins as begins
-
-pub returns : goal.returns
-returns c = begins.each_action_is_heard

@@ -1,5 +1,0 @@
-use Rattle.ws_pipe_laws.proofs.each_pipe_begins_flowing.Goals as goal
-use Rattle.ws_pipe_laws.proofs.Made as made
-
-pub returns : goal.returns
-returns c = made.each_pipe_begins_flowing

@@ -1,5 +1,0 @@
-use Rattle.ws_pipe_laws.proofs.each_pipe_moves.Goals as goal
-use Rattle.ws_pipe_laws.proofs.Moves as moves
-
-pub returns : goal.returns
-returns c = moves.each_pipe_moves

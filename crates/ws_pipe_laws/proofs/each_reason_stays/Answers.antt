@@ -1,5 +1,0 @@
-use Rattle.ws_pipe_laws.proofs.each_reason_stays.Goals as goal
-use Rattle.ws_pipe_laws.proofs.Signals as laws
-
-pub returns : goal.returns
-returns c = laws.each_reason_stays

@@ -1,5 +1,0 @@
-use Rattle.ws_pipe_laws.proofs.no_read_starts_once_shut.Goals as goal
-use Rattle.ws_pipe_laws.proofs.Shut as shut
-
-pub returns : goal.returns
-returns c = shut.no_read_starts_once_shut

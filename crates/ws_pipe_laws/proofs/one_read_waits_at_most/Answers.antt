@@ -1,5 +1,0 @@
-use Rattle.ws_pipe_laws.proofs.one_read_waits_at_most.Goals as goal
-use Rattle.ws_pipe_laws.proofs.PassingRuns as laws
-
-pub returns : goal.returns
-returns c = laws.one_read_waits_at_most

@@ -1,0 +1,20 @@
+pub mod Moves
+pub mod Starts
+pub mod Courses
+pub mod Unpiped
+pub mod Shut
+pub mod Signals
+pub mod SignalOrder
+pub mod Reading
+pub mod Passing
+pub mod PassingRuns
+pub mod Written
+pub mod Appended
+pub mod StepPassing
+pub mod AtSource
+pub mod GivenBy
+pub mod Begins
+pub mod Still
+pub mod Kept
+pub mod Made
+mod WorkedHistories

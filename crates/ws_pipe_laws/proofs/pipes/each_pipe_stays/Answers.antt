@@ -1,0 +1,5 @@
+use Rattle.ws_pipe_laws.proofs.pipes.each_pipe_stays.Goals as goal
+use Rattle.ws_pipe_laws.proofs.pipes.Kept as kept
+
+pub returns : goal.returns
+returns c = kept.each_pipe_stays

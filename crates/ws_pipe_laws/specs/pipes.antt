@@ -1,0 +1,5 @@
+pub mod PipeHistory
+pub mod PipeMoves
+pub mod PipeReads
+pub mod PipeWrites
+pub mod SignalLaws

@@ -1,5 +1,0 @@
-use Rattle.ws_tee_laws.proofs.Ending as laws
-use Rattle.ws_tee_laws.proofs.each_tee_hands_to_both.Goals as goal
-
-pub returns : goal.returns
-returns c = laws.each_tee_hands_to_both

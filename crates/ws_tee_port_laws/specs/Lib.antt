@@ -1,0 +1,2 @@
+pub mod tees
+pub mod ports
