@@ -1,4 +1,0 @@
-pub mod wrote
-pub mod ends
-pub mod hosts
-pub mod successes

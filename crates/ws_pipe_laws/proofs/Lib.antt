@@ -1,3 +1,0 @@
-pub mod pipes
-pub mod writes
-pub mod locks

@@ -1,2 +1,0 @@
-pub mod tees
-pub mod ports
