@@ -49,7 +49,7 @@ use Rattle.ws_runner.specs.declared.node.Node.{Node}
 use Rattle.ws_runner.specs.Node.{coming, coming_by, coming_behind, in_bytes, lies_in, lying, lying_by, nothing_yet, parts, works_in}
 use Rattle.ws_runner.specs.Opening.{IsAccepted, abort_of, all_begun, count_of, is_aborted, opening_by}
 use Rattle.ws_runner.specs.Past.{ArePushed, Counts, Driven, IsCause, IsFed, IsFresh, IsNew, IsOf, IsShaped, Led, OneAtMost}
-use Rattle.ws_runner.specs.Ran.{HasRun, IsPiped, PipeEnds}
+use Rattle.ws_runner.specs.Ran.{HasRun, IsOwnEntry, IsPiped, PipeEnds}
 use Rattle.ws_runner.specs.Shape.{shape_of}
 use Rattle.ws_runner.proofs.MakingNodes.{few-streams}
 
@@ -241,6 +241,7 @@ module _ (plan : Plan) (n : Node) (is_accepted : IsAccepted plan) (f : IsFresh p
 
   ran : HasRun (shape_of plan) (opening_by plan) n.realm.slots
   ran = record {
+    opened = record { since = []; is = refl; own = All-nil (IsOwnEntry k) };
     slots = f.slots;
     wired = subst (IsChain FromBytes ToSink k) (sym slots-are) begins.chain;
     quiet = past-none FromBytes ToSink k signalled [] few refl;

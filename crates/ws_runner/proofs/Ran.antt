@@ -1,5 +1,7 @@
 -- A realm to which one more call, job or event of its node led.
 use Rattle.std.proofs.Common.{◌≡◌, ◌≤◌, ℕ, false, List, [], ◌∷◌, ◌++◌, refl, sym, ap, ◌∙◌, subst, append-nil, append_assoc}
+use Rattle.std.proofs.lemmas.List.Elements.{All-head, All-push, All-tail}
+use Rattle.std.specs.Prelude.{All}
 use Rattle.ws_value.specs.declared.ids.PromiseId.{PromiseId}
 use Rattle.ws_value.specs.declared.ids.StreamId.{StreamId}
 use Rattle.ws_steps.specs.declared.calls.Call.{Call}
@@ -11,13 +13,15 @@ use Rattle.ws_reason_laws.specs.Origins.{through_of, through}
 use Rattle.ws_reason_laws.proofs.Brought.{through-append}
 use Rattle.ws_reason_laws.proofs.Quiet.{finish-none}
 use Rattle.ws_chain_laws.specs.Chain.{Origin, Target, IsChain, source_of}
-use Rattle.ws_chain_laws.specs.Runs.{IsNodes}
+use Rattle.ws_chain_laws.specs.Opening.{signal_of, piping, opening, chained}
+use Rattle.ws_chain_laws.specs.Runs.{IsNodes, AreNodes}
+use Rattle.ws_chain_laws.proofs.Begins.{run-append}
 use Rattle.ws_chain_laws.proofs.Keeps.{each_call_keeps_chain, each_job_keeps_chain, each_event_keeps_chain}
 use Rattle.ws_chain_laws.proofs.Links.{link-at}
 use Rattle.ws_chain_laws.proofs.Portless.{ArePortless, run-portless}
 use Rattle.ws_chain_laws.proofs.Runs.{nodes-leave}
 use Rattle.ws_chain_laws.proofs.Teeless.{AreTeeless, run-teeless}
-use Rattle.ws_runner.specs.Ran.{IsOwn, IsOwnEntry, HasRun, PipeEnds, IsPiped}
+use Rattle.ws_runner.specs.Ran.{IsOwn, IsOwnEntry, IsOpenedBy, HasRun, PipeEnds, IsPiped}
 use Rattle.ws_runner.specs.Shape.{Shape, count_in}
 use Rattle.ws_runner.proofs.Entries.{run-snoc}
 
@@ -73,12 +77,25 @@ step-wired o t n (Called c) s w is = (each_call_keeps_chain o t n s c w (nodes-l
 step-wired o t n Worked s w is = (each_job_keeps_chain o t n s w).chain
 step-wired o t n Heard s w is = (each_event_keeps_chain o t n s w).chain
 
+-- what led to it is longer by one entry
+opened-longer : (shape : Shape) (past : List Entry) (x : Entry) → IsOpenedBy shape past → IsOwnEntry (count_in shape) x → IsOpenedBy shape (past ++ x ∷ [])
+opened-longer shape past x o own =
+    let n = count_in shape in
+    record {
+      since = o.since ++ x ∷ [];
+      is =
+          ap (λ (es : List Entry). es ++ x ∷ []) o.is
+          ∙ append_assoc (opening shape.origin shape.target n shape.aborted) (Called (piping (signal_of shape.aborted) n) ∷ o.since) (x ∷ []);
+      own = All-push (IsOwnEntry n) o.since x o.own own;
+    }
+
 pub ran-longer : (shape : Shape) (past : List Entry) (x : Entry) (s z : Slots) → HasRun shape past s → z ≡ step s x → IsOwnEntry (count_in shape) x → HasRun shape (past ++ x ∷ []) z
 ran-longer shape past x s z r e own =
     let n = count_in shape in
     let o = shape.origin in
     let t = shape.target in
     record {
+      opened = opened-longer shape past x r.opened own;
       slots = e ∙ (ap (λ (q : Slots). step q x) r.slots ∙ sym (run-snoc past x empty));
       wired = subst (IsChain o t n) (sym e) (step-wired o t n x s r.wired own);
       quiet =
@@ -87,6 +104,25 @@ ran-longer shape past x s z r e own =
       teeless = subst (λ (q : Slots). q.tees ≡ []) (sym e) (run-teeless (x ∷ []) s (own-teeless n x own) r.teeless);
       portless = subst (λ (q : Slots). q.ports ≡ []) (sym e) (run-portless (x ∷ []) s (own-portless n x own) r.portless);
     }
+
+-- So the laws of a chain from its opening on are laws of a node: its calls since then are a node's, and its realm is that of the opening after them
+
+own-nodes-all : (n : ℕ) (xs : List Entry) → All (IsOwnEntry n) xs → AreNodes xs
+own-nodes-all n [] a = tt
+own-nodes-all n (Called c ∷ xs) a = (own-nodes n c (All-head (IsOwnEntry n) (Called c) xs a), own-nodes-all n xs (All-tail (IsOwnEntry n) (Called c) xs a))
+own-nodes-all n (Worked ∷ xs) a = own-nodes-all n xs (All-tail (IsOwnEntry n) Worked xs a)
+own-nodes-all n (Heard ∷ xs) a = own-nodes-all n xs (All-tail (IsOwnEntry n) Heard xs a)
+
+pub opened-nodes : (shape : Shape) (past : List Entry) (o : IsOpenedBy shape past) → AreNodes o.since
+opened-nodes shape past o = own-nodes-all (count_in shape) o.since o.own
+
+pub opened-slots : (shape : Shape) (past : List Entry) (s : Slots) (r : HasRun shape past s)
+    → s ≡ run r.opened.since (chained shape.origin shape.target (count_in shape) shape.aborted)
+opened-slots shape past s r =
+    let n = count_in shape in
+    r.slots
+    ∙ (ap (λ (es : List Entry). run es empty) r.opened.is
+    ∙ run-append (opening shape.origin shape.target n shape.aborted) (Called (piping (signal_of shape.aborted) n) ∷ r.opened.since) empty)
 
 -- with the same past
 pub ran-same : (shape : Shape) (past : List Entry) (s z : Slots) → HasRun shape past s → z ≡ s → HasRun shape past z

@@ -1,5 +1,5 @@
 -- A realm to which calls of a node led, and how the pipe of its last link ends.
-use Rattle.std.specs.Prelude.{◌≡◌, ◌≤◌, ℕ, true, is_some, List, [], ◌++◌, Some, Contains}
+use Rattle.std.specs.Prelude.{◌≡◌, ◌≤◌, ℕ, true, is_some, List, [], ◌++◌, Some, All, Contains}
 use Rattle.ws_value.specs.declared.ids.PromiseId.{PromiseId}
 use Rattle.ws_value.specs.declared.value.Outcome.TheVariants.{Fulfilled, Rejected}
 use Rattle.ws_value.specs.declared.value.Plain.{Plain}
@@ -13,8 +13,8 @@ use Rattle.ws_reason_laws.specs.Reasons.{NeedsPort, NeedsTee, failures}
 use Rattle.ws_wire_laws.specs.Wire.{IsWired}
 use Rattle.ws_chain_laws.specs.Chain.{source_of}
 use Rattle.ws_chain_laws.specs.Opening.{promise_of}
-use Rattle.ws_chain_laws.specs.Outcomes.{IsClosedWell}
-use Rattle.ws_runner.specs.Shape.{Shape, links_in}
+use Rattle.ws_chain_laws.specs.Outcomes.{past_of, IsClosedWell}
+use Rattle.ws_runner.specs.Shape.{Shape, count_in, links_in}
 
 -- a call of a node with so many transform streams: it settles a call of its algorithms, enqueues, finishes or fails the source of one of its links, or
 -- triggers a signal
@@ -32,8 +32,15 @@ IsOwnEntry n (Called c) = IsOwn n c
 IsOwnEntry n Worked = Unit {0}
 IsOwnEntry n Heard = Unit {0}
 
+-- it began with the calls that open the shape, and since then had calls of its own, jobs and events
+pub record IsOpenedBy (shape : Shape) (past : List Entry) : Type 0 where
+  pub since : List Entry
+  pub is : past ≡ past_of shape.origin shape.target (count_in shape) shape.aborted since
+  pub own : All (IsOwnEntry (count_in shape)) since
+
 -- all this led to the realm: its links are those of the shape, nothing came through a transform stream, and there is neither a tee nor a port
 pub record HasRun (shape : Shape) (past : List Entry) (s : Slots) : Type 0 where
+  pub opened : IsOpenedBy shape past
   pub slots : s ≡ run past empty
   pub wired : IsWired (links_in shape) s
   pub quiet : through past empty ≡ []

@@ -1,4 +1,4 @@
-use Rattle.std.proofs.Common.{sym, ◌∙◌}
+use Rattle.std.proofs.Common.{[], ◌∷◌, sym, ◌∙◌}
 use Rattle.ws_io.specs.Moment.{moment}
 use Rattle.ws_steps.specs.Run.{Heard}
 use Rattle.ws_runner.specs.Moves.{with_realm}
@@ -26,6 +26,9 @@ returns-in_default-clause-went g c =
     (hears-none c.requires.shape c.requires.past c.args.self.now c.next_event.new.self
     (moment (g.S.Source.faults c.args.input.now) (g.S.Source.feed c.args.input.now) (g.K.Sink.faults c.args.output.now) (g.K.Sink.finished c.args.output.now)) (g.K.Sink.got c.args.output.now)
     c.requires.since (is_none_so c.args.self.now.stopped (sym c.is_some.ensures ∙ c.if-is_some.false)) (sym c.in_default.ensures.event) c.next_event.ensures.slots).went
+
+pub returns-in_default-clause-follows : goal.returns-in_default-clause-follows
+returns-in_default-clause-follows g c = record { entries = Heard ∷ []; slots = c.next_event.ensures.slots }
 
 pub hear_of-requires : goal.hear_of-requires
 hear_of-requires g c =
