@@ -34,5 +34,6 @@ pub mod Sinking
 pub mod Staged
 pub mod StillOpen
 pub mod Unheard
+pub mod Unprevented
 pub mod Worked
 pub mod Working

@@ -15,6 +15,7 @@ use Rattle.ws_io.specs.Moment.{Moment}
 use Rattle.ws_stages.specs.State.{State}
 use Rattle.ws_steps.specs.Slots.{Slots}
 use Rattle.ws_chain_laws.specs.Chain.{source_of, dest_of, link_of, behind_at}
+use Rattle.ws_chain_laws.specs.Sound.{IsSound}
 use Rattle.ws_chain_laws.proofs.Links.{link-at}
 use Rattle.ws_chain_laws.proofs.Sound.{each_sound_link_is_whole}
 use Rattle.ws_realm.specs.declared.realm.Why.{Why}
@@ -29,6 +30,7 @@ use Rattle.ws_runner.specs.Shape.{count_in}
 use Rattle.ws_runner.specs.Sound.{IsSoundNode, EachSoundNodeIsWhole}
 use Rattle.ws_runner.specs.Went.{OutputGoes}
 use Rattle.ws_runner.proofs.Flow.{keeps-flow}
+use Rattle.ws_runner.proofs.Unprevented.{closes-all}
 
 -- what a stage leaves behind it
 
@@ -70,11 +72,24 @@ module _ (n : Node) (driven : Driven n) (sound : IsSoundNode n) where
   few : count ≡ count_in driven.shape
   few = sym (length-map (λ (w : State). w.stage) n.stages.items) ∙ ap length driven.since.led.is_of.stages
 
+  -- no pipe prevents the close, since none did as the realm was opened
+  link-sound : (k : ℕ) → k ≤ count → IsSound (source_of k) (dest_of k) (link_of k) n.realm.slots
+  link-sound k l =
+      let same = few in
+      let led = driven.since.led in
+      let u = sound.links k l in
+      record {
+        source = u.source;
+        sink = u.sink;
+        closes = closes-all driven.shape driven.past n.realm.slots led.ran led.is_of.fit k (omega arith);
+        error = u.error;
+      }
+
   behind-whole : (k : ℕ) → k ≤ count → (behind_at k n.realm.slots).mark ≢ Lost
   behind-whole k l =
       let same = few in
       let joint = link-at driven.shape.origin driven.shape.target (count_in driven.shape) n.realm.slots driven.since.led.ran.wired k (omega arith) in
-      each_sound_link_is_whole (source_of k) (dest_of k) (link_of k) n.realm.slots joint.link (sound.links k l)
+      each_sound_link_is_whole (source_of k) (dest_of k) (link_of k) n.realm.slots joint.link (link-sound k l)
 
   coming-whole : (k : ℕ) → (coming n k).mark ≢ Lost
   coming-whole zero = λ e. let same = sound.input in grind arith

@@ -1,5 +1,9 @@
 -- A node of which nothing failed.
-use Rattle.std.specs.Prelude.{◌≡◌, ◌≢◌, ◌≤◌, ℕ, List, length, None}
+use Rattle.std.specs.Prelude.{◌≡◌, ◌≢◌, ◌≤◌, ℕ, false, List, length, None}
+use Rattle.ws_value.specs.declared.ids.PipeId.{PipeId}
+use Rattle.ws_value.specs.declared.ids.StreamId.{StreamId}
+use Rattle.ws_steps.specs.declared.readable.ReadableState.TheVariants.{Errored}
+use Rattle.ws_steps.specs.Slots.{Slots, pipe_at, source_at, writable_at}
 use Rattle.ws_flow.specs.declared.plan.Plan.{Plan}
 use Rattle.ws_flow.specs.Machines.{all_through}
 use Rattle.ws_flow.specs.Parts.{residual}
@@ -7,18 +11,24 @@ use Rattle.ws_flow.specs.Plans.{stages_of}
 use Rattle.ws_flow.specs.Stages.{machines}
 use Rattle.ws_flow.specs.Told.{Mark, Lost, Told, then_told}
 use Rattle.ws_io.specs.Moment.{Moment}
+use Rattle.ws_end_laws.specs.ends.PassedAll.{is_failing}
 use Rattle.ws_chain_laws.specs.Chain.{source_of, dest_of, link_of}
-use Rattle.ws_chain_laws.specs.Sound.{IsSound}
 use Rattle.ws_runner.specs.declared.node.Node.{Node}
 use Rattle.ws_runner.specs.declared.node.Output.TheVariants as output
 use Rattle.ws_runner.specs.Flow.{HasGone}
 use Rattle.ws_runner.specs.Node.{lost_by, lying, nothing_yet, parts}
 use Rattle.ws_runner.specs.Past.{Driven}
 
--- of none of its links an end has failed, and no pipe has an error or prevents the close; no call of its input or output has failed, no more was read than
--- the run may take, and nothing came to be written behind the place of its abort; and its realm goes on
+-- neither end of a link is erroring or has errored, and its pipe has no error
+pub record IsUnfailed (i j : StreamId) (p : PipeId) (s : Slots) : Type 0 where
+  pub source : (source_at i s).state ≢ Errored
+  pub sink : is_failing (writable_at j s).state ≡ false
+  pub error : (pipe_at p s).error ≡ None
+
+-- none of its links has failed, the one from its source and those from its stages; no call of its input or output has failed, no more was read than the run
+-- may take, and nothing came to be written behind the place of its abort; and its realm goes on
 pub record IsSoundNode (n : Node) : Type 0 where
-  pub links : (k : ℕ) → k ≤ length n.stages.items → IsSound (source_of k) (dest_of k) (link_of k) n.realm.slots
+  pub links : (k : ℕ) → k ≤ length n.stages.items → IsUnfailed (source_of k) (dest_of k) (link_of k) n.realm.slots
   pub input : lost_by n.input ≡ nothing_yet
   pub output_unfailed : n.output ≢ output.Failed
   pub output_unaborted : n.output ≢ output.Aborted

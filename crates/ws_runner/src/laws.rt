@@ -21,9 +21,9 @@ pub fn each_node_keeps_flow()
 /// While nothing of a node has failed, what went out and what lies in it, through the stages that it hasn't passed, is
 /// all that the stages make of what was read.
 ///
-/// No end of a link is erroring or errored, no pipe has an error or prevents the close (those of a new node don't), no
-/// call of the input or output has failed, no more was read than the run may take, nothing came to be written behind
-/// the place of the abort, and the realm goes on. A stage that was bad hides nothing: what it put out before goes on.
+/// No link has an end that is erroring or errored, or a pipe that has an error; no call of the input or output has
+/// failed, no more was read than the run may take, nothing came to be written behind the place of the abort, and the
+/// realm goes on. A stage that was bad hides nothing: what it put out before goes on.
 ///
 /// Of: nodes, stages, links.
 pub fn each_sound_node_is_whole()
