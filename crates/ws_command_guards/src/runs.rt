@@ -51,7 +51,7 @@ pub fn turn<S: Source, K: Sink>(
         (moment (S.faults input.new) (S.feed input.new) (K.faults output.new) (K.finished output.new))
         (K.got output.old) (K.got output.new) }
     ensures turn { TurnIs result whole.old whole.new }
-    ensures counts { HasCounts whole.new }
+    ensures counts { HasCounts whole.new.entrance }
 {
     whole.turn(alloc, input, output)
 }

@@ -98,9 +98,9 @@ had-counts [] count ahead e = omega arith
 had-counts (w ∷ ws) count ahead e = absurd (cc)
 
 -- why an output fails
-pub caused : (n : Node) → n.output ≢ output.Open → (n.output ≡ output.Aborted → is_reached n.abort ≡ true) → IsCause n (FaultReason (fault_of n.output))
-caused n closed reached = by n.output refl where
-  by : (o : Output) → n.output ≡ o → IsCause n (FaultReason (fault_of o))
+pub caused : (n : Node) → n.exit.output ≢ output.Open → (n.exit.output ≡ output.Aborted → is_reached n.exit.abort ≡ true) → IsCause n (FaultReason (fault_of n.exit.output))
+caused n closed reached = by n.exit.output refl where
+  by : (o : Output) → n.exit.output ≡ o → IsCause n (FaultReason (fault_of o))
   by output.Open e = absurd (closed e)
   by output.Finished e = (λ f. cc, λ f. cc)
   by output.Failed e = (λ f. cc, λ f. cc)
@@ -110,20 +110,20 @@ caused n closed reached = by n.output refl where
 
 data Drawn (n c : Node) : Type 0 where
   Same : c ≡ n → Drawn n c
-  Triggered : (y : Abort) → is_reached n.abort ≡ true → Asks (triggers y) n c → Drawn n c
+  Triggered : (y : Abort) → is_reached n.exit.abort ≡ true → Asks (triggers y) n c → Drawn n c
 
-drawn-near : (y : Abort) (count l : ℕ) (n c : Node) → y.left - count ≡ l → draws_near (nearer count y) l n c → Drawn (record n { abort = Some (nearer count y) }) c
+drawn-near : (y : Abort) (count l : ℕ) (n c : Node) → y.left - count ≡ l → draws_near (nearer count y) l n c → Drawn (record n { exit = record n.exit { abort = Some (nearer count y) } }) c
 drawn-near y count zero n c e d = Triggered (nearer count y) (ap (λ (z : ℕ). z == 0) e) d
 drawn-near y count (suc l) n c e d = Same d
 
-drawn : (count : ℕ) (x : Option Abort) (n c : Node) → n.abort ≡ x → draws_by count x n c → Drawn (record n { abort = nearer_by count x }) c
-drawn count None n c e d = Same (d ∙ ap (λ (z : Option Abort). record n { abort = z }) e)
+drawn : (count : ℕ) (x : Option Abort) (n c : Node) → n.exit.abort ≡ x → draws_by count x n c → Drawn (record n { exit = record n.exit { abort = nearer_by count x } }) c
+drawn count None n c e d = Same (d ∙ ap (λ (z : Option Abort). record n { exit = record n.exit { abort = z } }) e)
 drawn count (Some y) n c e d = drawn-near y count (y.left - count) n c refl d
 
 trigger-quiet : (shape : Shape) (y : Abort) (k : ℕ) → enters_in shape k (triggers y) ≡ silence
 trigger-quiet shape y k = (each_nodes_call_brings shape.origin k).trigger y.signal (FaultReason AbortFault)
 
-may-trigger : (shape : Shape) (past : List Entry) (n : Node) (y : Abort) → is_reached n.abort ≡ true → MayAsk shape past n (triggers y)
+may-trigger : (shape : Shape) (past : List Entry) (n : Node) (y : Abort) → is_reached n.exit.abort ≡ true → MayAsk shape past n (triggers y)
 may-trigger shape past n y reached =
     record {
       is_own = tt;
@@ -134,18 +134,18 @@ may-trigger shape past n y reached =
 
 module _ (shape : Shape) (past : List Entry) (id : HostId) (call : HostCall) (is : slice_get (called past) id.0 ≡ Some call) where
   -- a call is settled well; and badly, with a cause
-  well : (n b : Node) → Led shape past n → (call ≡ Close n.sink → n.output ≡ output.Finished) → ((s : StreamId) → call ≡ Flush s → ⊥) → Asks (settles id) n b → AfterQuiet shape past n b
+  well : (n b : Node) → Led shape past n → (call ≡ Close n.exit.sink → n.exit.output ≡ output.Finished) → ((s : StreamId) → call ≡ Flush s → ⊥) → Asks (settles id) n b → AfterQuiet shape past n b
   well n b led close flush asks =
       asks-quietly shape past n b (settles id) (settle-quiet shape id AnswerOk) led (may-settle shape past n id call is AnswerOk (All-nil (IsCause n)) (λ c x. close c) (λ s f. absurd (flush s f))) asks
 
-  badly : (n b : Node) → Led shape past n → n.output ≢ output.Open → (n.output ≡ output.Aborted → is_reached n.abort ≡ true) → Asks (fails id (fault_of n.output)) n b → AfterQuiet shape past n b
+  badly : (n b : Node) → Led shape past n → n.exit.output ≢ output.Open → (n.exit.output ≡ output.Aborted → is_reached n.exit.abort ≡ true) → Asks (fails id (fault_of n.exit.output)) n b → AfterQuiet shape past n b
   badly n b led closed reached asks =
-      let x = AnswerFail (FaultReason (fault_of n.output)) in
+      let x = AnswerFail (FaultReason (fault_of n.exit.output)) in
       asks-quietly shape past n b (Settle id x) (settle-quiet shape id x) led
-      (may-settle shape past n id call is x (All-cons (IsCause n) (FaultReason (fault_of n.output)) [] (caused n closed reached) (All-nil (IsCause n))) (λ c e. absurd (cc)) (λ s f e. absurd (cc))) asks
+      (may-settle shape past n id call is x (All-cons (IsCause n) (FaultReason (fault_of n.exit.output)) [] (caused n closed reached) (All-nil (IsCause n))) (λ c e. absurd (cc)) (λ s f e. absurd (cc))) asks
 
 module _ (rf : ℕ) (feed : Option Feed) (p q : List ℕ → Type 0) (shape : Shape) (past : List Entry) (a : Node) (realm : SeenRealm) (id : HostId) (b : Node) (old new : Shown) (since : Since shape past a)
-    (goes : a.stopped ≡ None) where
+    (goes : a.core.stopped ≡ None) where
   abbrev was : Node
   was = with_realm realm a
 
@@ -157,61 +157,61 @@ module _ (rf : ℕ) (feed : Option Feed) (p q : List ℕ → Type 0) (shape : Sh
     module _ (call : HostCall) (t : Told Value) (event : AfterEvent shape past a realm (Host id call))
         (heard : (k : ℕ) → k ≤ count_in shape → hears_in shape k (Host id call) ≡ only_at sink_link t k) where
       -- once the output isn't open, nothing is said of what is behind the host without stages
-      one-shut : (k : ℕ) (x : Option Abort) (o : Output) (after : AfterQuiet shape further (record was { ahead = k; abort = x; output = o }) b) → o ≢ output.Open → k ≡ a.ahead → HasOne b
-      one-shut k x o after closed same = by a.stages.items refl where
-        b-stages : b.stages.items ≡ a.stages.items
-        b-stages = ap (λ (n : Node). n.stages.items) after.only.is
+      one-shut : (k : ℕ) (x : Option Abort) (o : Output) (after : AfterQuiet shape further (record was { entrance = record was.entrance { ahead = k }; exit = record was.exit { abort = x; output = o } }) b) → o ≢ output.Open → k ≡ a.entrance.ahead → HasOne b
+      one-shut k x o after closed same = by a.core.stages.items refl where
+        b-stages : b.core.stages.items ≡ a.core.stages.items
+        b-stages = ap (λ (n : Node). n.core.stages.items) after.only.is
 
-        by : (ws : List State) → a.stages.items ≡ ws → HasOne b
+        by : (ws : List State) → a.core.stages.items ≡ ws → HasOne b
         by [] e = λ h.
-            let f : may_have [] b.output b.abort ≡ true = subst (λ (s : List State). may_have s b.output b.abort ≡ true) (b-stages ∙ e) h in
-            absurd (closed (sym (ap (λ (n : Node). n.output) after.only.is) ∙ writable-open b.output ((and_parts (is_writable b.output) _ f).0)))
-        by (u ∷ us) e = one-stages shape past a realm since goes sink_link is_last id call t event heard b u us e (b-stages ∙ e) (ap (λ (n : Node). n.ahead) after.only.is ∙ same) (λ n o. after.one n o)
+            let f : may_have [] b.exit.output b.exit.abort ≡ true = subst (λ (s : List State). may_have s b.exit.output b.exit.abort ≡ true) (b-stages ∙ e) h in
+            absurd (closed (sym (ap (λ (n : Node). n.exit.output) after.only.is) ∙ writable-open b.exit.output ((and_parts (is_writable b.exit.output) _ f).0)))
+        by (u ∷ us) e = one-stages shape past a realm since goes sink_link is_last id call t event heard b u us e (b-stages ∙ e) (ap (λ (n : Node). n.entrance.ahead) after.only.is ∙ same) (λ n o. after.one n o)
 
       lost-out : (x : Told (List ℕ)) → IsShortOf (told [] Lost) (lies_to x a sink_link)
       lost-out x = ((lies_to x a sink_link).items, refl)
 
       -- what was asked of an output that takes no more is lost
-      refused : a.output ≢ output.Open → Untouched old new p q → Fails id was b → Handled shape a b (shows rf feed old) (shows rf feed new) p q
+      refused : a.exit.output ≢ output.Open → Untouched old new p q → Fails id was b → Handled shape a b (shows rf feed old) (shows rf feed new) p q
       refused shut_already untouched asks =
-          let o = shut a.output in
-          let same = shut-stays a.output shut_already in
+          let o = shut a.exit.output in
+          let same = shut-stays a.exit.output shut_already in
           let led = led-output shape further was o (λ h. same) (λ e. since.led.aborts (sym same ∙ e)) event.led in
-          let after = badly shape further id call event.its (record was { output = o }) b led (shut-shut a.output) (λ e. since.led.aborts (sym same ∙ e)) asks in
+          let after = badly shape further id call event.its (record was { exit = record was.exit { output = o } }) b led (shut-shut a.exit.output) (λ e. since.led.aborts (sym same ∙ e)) asks in
           rw untouched.shown
-          (sunk shape past a realm since goes sink_link is_last id call t event heard b a.ahead a.abort o after (told [] Lost) lost-out rf feed old old p q [] Lost untouched.gained ([], refl) (λ e. omega arith)
-          (subst (λ (z : Output). OutputGoes a.output z [] Lost (shows rf feed old) (shows rf feed old)) (sym same) (output-alone a.output [] Lost (shows rf feed old) shut_already refl))
-          (abort-same a.abort [] o) (one-shut a.ahead a.abort o after (shut-shut a.output) refl))
+          (sunk shape past a realm since goes sink_link is_last id call t event heard b a.entrance.ahead a.exit.abort o after (told [] Lost) lost-out rf feed old old p q [] Lost untouched.gained ([], refl) (λ e. omega arith)
+          (subst (λ (z : Output). OutputGoes a.exit.output z [] Lost (shows rf feed old) (shows rf feed old)) (sym same) (output-alone a.exit.output [] Lost (shows rf feed old) shut_already refl))
+          (abort-same a.exit.abort [] o) (one-shut a.entrance.ahead a.exit.abort o after (shut-shut a.exit.output) refl))
 
       -- it fails as it is asked for this, of which some was written
-      broken : (went : Told (List ℕ)) (gain : List ℕ) → a.output ≡ output.Open → Gains p q gain → Rose old.faults new.faults → KeepsTold old.finished new.finished → Fails id was b
+      broken : (went : Told (List ℕ)) (gain : List ℕ) → a.exit.output ≡ output.Open → Gains p q gain → Rose old.faults new.faults → KeepsTold old.finished new.finished → Fails id was b
           → ((x : Told (List ℕ)) → IsShortOf (then_told went (lies_to x was sink_link)) (lies_to x a sink_link)) → IsShortOf (told gain Lost) (bytes_of went)
-          → (a.stages.items ≡ [] → a.ahead ≤ length gain + a.ahead) → AbortGoes a.abort a.abort went.items gain (shut a.output) → Handled shape a b (shows rf feed old) (shows rf feed new) p q
+          → (a.core.stages.items ≡ [] → a.entrance.ahead ≤ length gain + a.entrance.ahead) → AbortGoes a.exit.abort a.exit.abort went.items gain (shut a.exit.output) → Handled shape a b (shows rf feed old) (shows rf feed new) p q
       broken went gain is gained rose kept asks there written ahead abort =
-          let o = shut a.output in
-          let led = led-output shape further was o (λ h. absurd (h is)) (λ e. absurd (let f = open-fails a.output is in cc)) event.led in
-          let after = badly shape further id call event.its (record was { output = o }) b led (shut-shut a.output) (λ e. absurd (let f = open-fails a.output is in cc)) asks in
-          sunk shape past a realm since goes sink_link is_last id call t event heard b a.ahead a.abort o after went there rf feed old new p q gain Lost gained written ahead
-          (output-fails a.output gain (shows rf feed old) (shows rf feed new) is rose kept) abort (one-shut a.ahead a.abort o after (shut-shut a.output) refl)
+          let o = shut a.exit.output in
+          let led = led-output shape further was o (λ h. absurd (h is)) (λ e. absurd (let f = open-fails a.exit.output is in cc)) event.led in
+          let after = badly shape further id call event.its (record was { exit = record was.exit { output = o } }) b led (shut-shut a.exit.output) (λ e. absurd (let f = open-fails a.exit.output is in cc)) asks in
+          sunk shape past a realm since goes sink_link is_last id call t event heard b a.entrance.ahead a.exit.abort o after went there rf feed old new p q gain Lost gained written ahead
+          (output-fails a.exit.output gain (shows rf feed old) (shows rf feed new) is rose kept) abort (one-shut a.entrance.ahead a.exit.abort o after (shut-shut a.exit.output) refl)
 
     -- what the sink of the last link is told
     by-sink : (t : Told Value) (k : ℕ) → only_at (count_in shape) (by_sink shape.target t) k ≡ only_at sink_link t k
     by-sink t k =
         ap (λ (target : Target). only_at (count_in shape) (by_sink target t) k) since.led.is_of.into ∙ ap (λ (n : ℕ). only_at n t k) (sym is_last)
 
-    heard-write : (v : Value) (k : ℕ) → k ≤ count_in shape → hears_in shape k (Host id (Write a.sink v)) ≡ only_at sink_link (told (v ∷ []) MayCome) k
+    heard-write : (v : Value) (k : ℕ) → k ≤ count_in shape → hears_in shape k (Host id (Write a.exit.sink v)) ≡ only_at sink_link (told (v ∷ []) MayCome) k
     heard-write v k less =
         subst (λ (s : StreamId). hears_in shape k (Host id (Write s v)) ≡ only_at sink_link (told (v ∷ []) MayCome) k) (sym since.led.is_of.sink)
         ((each_event_is_heard_at_one_link shape.origin shape.target (count_in shape) k less).write id v ∙ by-sink (told (v ∷ []) MayCome) k)
 
-    heard-close : (k : ℕ) → k ≤ count_in shape → hears_in shape k (Host id (Close a.sink)) ≡ only_at sink_link (told [] Closed) k
+    heard-close : (k : ℕ) → k ≤ count_in shape → hears_in shape k (Host id (Close a.exit.sink)) ≡ only_at sink_link (told [] Closed) k
     heard-close k less =
         subst (λ (s : StreamId). hears_in shape k (Host id (Close s)) ≡ only_at sink_link (told [] Closed) k) (sym since.led.is_of.sink)
         ((each_event_is_heard_at_one_link shape.origin shape.target (count_in shape) k less).close id ∙ by-sink (told [] Closed) k)
 
-    module _ (piece : List ℕ) (event : AfterEvent shape past a realm (Host id (Write a.sink (Bytes piece)))) where
+    module _ (piece : List ℕ) (event : AfterEvent shape past a realm (Host id (Write a.exit.sink (Bytes piece)))) where
       abbrev call : HostCall
-      call = Write a.sink (Bytes piece)
+      call = Write a.exit.sink (Bytes piece)
 
       abbrev one_told : Told Value
       one_told = told (Bytes piece ∷ []) MayCome
@@ -222,7 +222,7 @@ module _ (rf : ℕ) (feed : Option Feed) (p q : List ℕ → Type 0) (shape : Sh
       out : (x : Told (List ℕ)) → IsShortOf (then_told (told (piece ∷ []) MayCome) (lies_to x was sink_link)) (lies_to x a sink_link)
       out = heard-out shape past a realm since goes sink_link is_last id call one_told event heard
 
-      short-piece : a.output ≡ output.Open → length piece < 2 ^ 25
+      short-piece : a.exit.output ≡ output.Open → length piece < 2 ^ 25
       short-piece is = piece-short shape past a realm since goes sink_link is_last piece (lies_to (coming a sink_link) was sink_link) is (out (coming a sink_link))
 
       -- it was written first, and then nothing more comes
@@ -233,76 +233,76 @@ module _ (rf : ℕ) (feed : Option Feed) (p q : List ℕ → Type 0) (shape : Sh
           ((lies_to x was n).items ++ f.0, f.1)
 
       abbrev left : ℕ
-      left = had_by a.stages.items (length piece) a.ahead
+      left = had_by a.core.stages.items (length piece) a.entrance.ahead
 
       abbrev abort_left : Option Abort
-      abort_left = nearer_by (length piece) a.abort
+      abort_left = nearer_by (length piece) a.exit.abort
 
-      one-written : (after : AfterQuiet shape further (record was { ahead = left; abort = abort_left }) b) → a.output ≡ output.Open → is_reached a.abort ≡ false → HasOne b
-      one-written after is near = by a.stages.items refl where
-        b-stages : b.stages.items ≡ a.stages.items
-        b-stages = ap (λ (n : Node). n.stages.items) after.only.is
+      one-written : (after : AfterQuiet shape further (record was { entrance = record was.entrance { ahead = left }; exit = record was.exit { abort = abort_left } }) b) → a.exit.output ≡ output.Open → is_reached a.exit.abort ≡ false → HasOne b
+      one-written after is near = by a.core.stages.items refl where
+        b-stages : b.core.stages.items ≡ a.core.stages.items
+        b-stages = ap (λ (n : Node). n.core.stages.items) after.only.is
 
-        by : (ws : List State) → a.stages.items ≡ ws → HasOne b
+        by : (ws : List State) → a.core.stages.items ≡ ws → HasOne b
         by [] e = λ h.
-            let none : sink_link ≡ 0 = is_last ∙ sym (count-works shape past a realm since goes) ∙ (let f : length (works_in a) ≡ length a.stages.items = length-map a.stages.items (λ (w : State). w.work) in let g : length a.stages.items ≡ 0 = ap length e in omega arith) in
-            let may : may_have a.stages.items a.output a.abort ≡ true = rw (e, is, near) refl in
+            let none : sink_link ≡ 0 = is_last ∙ sym (count-works shape past a realm since goes) ∙ (let f : length (works_in a.core) ≡ length a.core.stages.items = length-map a.core.stages.items (λ (w : State). w.work) in let g : length a.core.stages.items ≡ 0 = ap length e in omega arith) in
+            let may : may_have a.core.stages.items a.exit.output a.exit.abort ≡ true = rw (e, is, near) refl in
             let it : hears_in shape 0 (Host id call) ≡ one_told = heard 0 (omega arith) ∙ (ap (λ (n : ℕ). only_at n one_told 0) none ∙ at-there 0 one_told) in
-            let left_over = one-heard a.ahead (Bytes piece) (behind_at 0 realm.slots) (behind_at 0 a.realm.slots)
-            (subst (λ (t : Told Value). IsShortOf (then_told t (behind_at 0 realm.slots)) (behind_at 0 a.realm.slots)) it (event.short 0 (omega arith))) (since.one may) in
-            after.one b.ahead (subst (OneAtMost b.ahead) (sym left_over.0) tt)
+            let left_over = one-heard a.entrance.ahead (Bytes piece) (behind_at 0 realm.slots) (behind_at 0 a.core.realm.slots)
+            (subst (λ (t : Told Value). IsShortOf (then_told t (behind_at 0 realm.slots)) (behind_at 0 a.core.realm.slots)) it (event.short 0 (omega arith))) (since.one may) in
+            after.one b.entrance.ahead (subst (OneAtMost b.entrance.ahead) (sym left_over.0) tt)
         by (u ∷ us) e =
             one-stages shape past a realm since goes sink_link is_last id call one_told event heard b u us e (b-stages ∙ e)
-            (ap (λ (n : Node). n.ahead) after.only.is ∙ ap (λ (ws : List State). had_by ws (length piece) a.ahead) e) (λ n o. after.one n o)
+            (ap (λ (n : Node). n.entrance.ahead) after.only.is ∙ ap (λ (ws : List State). had_by ws (length piece) a.entrance.ahead) e) (λ n o. after.one n o)
 
-      after-drawn : (c : Node) → Led shape further (record was { ahead = left; abort = abort_left }) → Drawn (record was { ahead = left; abort = abort_left }) c → Asks (settles id) c b
-          → AfterQuiet shape further (record was { ahead = left; abort = abort_left }) b
+      after-drawn : (c : Node) → Led shape further (record was { entrance = record was.entrance { ahead = left }; exit = record was.exit { abort = abort_left } }) → Drawn (record was { entrance = record was.entrance { ahead = left }; exit = record was.exit { abort = abort_left } }) c → Asks (settles id) c b
+          → AfterQuiet shape further (record was { entrance = record was.entrance { ahead = left }; exit = record was.exit { abort = abort_left } }) b
       after-drawn c led (Same e) asks =
-          well shape further id call event.its (record was { ahead = left; abort = abort_left }) b led (λ f. absurd (cc)) (λ s f. cc) (subst (λ (n : Node). Asks (settles id) n b) e asks)
+          well shape further id call event.its (record was { entrance = record was.entrance { ahead = left }; exit = record was.exit { abort = abort_left } }) b led (λ f. absurd (cc)) (λ s f. cc) (subst (λ (n : Node). Asks (settles id) n b) e asks)
       after-drawn c led (Triggered y reached trigger) asks =
-          let n : Node = record was { ahead = left; abort = abort_left } in
+          let n : Node = record was { entrance = record was.entrance { ahead = left }; exit = record was.exit { abort = abort_left } } in
           let first = asks-quietly shape further n c (triggers y) (trigger-quiet shape y) led (may-trigger shape further n y reached) trigger in
           quiet-then shape further n c b first
           (well shape (further ++ first.more) id call (called-longer further first.more id call event.its) c b first.led (λ f. absurd (cc)) (λ s f. cc) asks)
 
       pub wrote : Writes id piece was b old new p q → Handled shape a b (shows rf feed old) (shows rf feed new) p q
       wrote (WroteAll is near gained calm kept c draws asks) =
-          let m : Node = record was { ahead = left } in
-          let led = led-abort shape further m abort_left (signal-same (length piece) a.abort) (λ r. absurd (let f : true ≡ false = sym r ∙ near in cc))
-          (led-ahead shape further was left (had-less a.stages.items (length piece) a.ahead) event.led) in
-          let after = after-drawn c led (drawn (length piece) a.abort m c refl draws) asks in
-          sunk shape past a realm since goes sink_link is_last id call one_told event heard b left abort_left a.output after (told (piece ∷ []) MayCome) out rf feed old new p q piece MayCome gained (append-nil piece, refl)
-          (had-counts a.stages.items (length piece) a.ahead) (output-open a.output piece (shows rf feed old) (shows rf feed new) is calm kept)
-          (abort-nearer a.abort piece a.output near (short-piece is)) (one-written after is near)
+          let m : Node = record was { entrance = record was.entrance { ahead = left } } in
+          let led = led-abort shape further m abort_left (signal-same (length piece) a.exit.abort) (λ r. absurd (let f : true ≡ false = sym r ∙ near in cc))
+          (led-ahead shape further was left (had-less a.core.stages.items (length piece) a.entrance.ahead) event.led) in
+          let after = after-drawn c led (drawn (length piece) a.exit.abort m c refl draws) asks in
+          sunk shape past a realm since goes sink_link is_last id call one_told event heard b left abort_left a.exit.output after (told (piece ∷ []) MayCome) out rf feed old new p q piece MayCome gained (append-nil piece, refl)
+          (had-counts a.core.stages.items (length piece) a.entrance.ahead) (output-open a.exit.output piece (shows rf feed old) (shows rf feed new) is calm kept)
+          (abort-nearer a.exit.abort piece a.exit.output near (short-piece is)) (one-written after is near)
       wrote (WroteLess is near gain rest e gained rose kept asks) =
           let few : length gain ≤ length piece = let m : length piece ≡ length gain + length rest = ap length e ∙ length-append gain rest in omega arith in
           broken call one_told event heard (told (piece ∷ []) Lost) gain is gained rose kept asks out-lost (rest, append-nil piece ∙ e) (λ n. omega arith)
-          (abort-less a.abort piece gain (shut a.output) (open-fails a.output is) near (short-piece is) few)
+          (abort-less a.exit.abort piece gain (shut a.exit.output) (open-fails a.exit.output is) near (short-piece is) few)
       wrote (WroteNone closed untouched asks) = refused call one_told event heard closed untouched asks
       wrote (Reached is reached untouched asks) =
-          let n : Node = record was { output = output.Aborted } in
+          let n : Node = record was { exit = record was.exit { output = output.Aborted } } in
           let led = led-output shape further was output.Aborted (λ h. absurd (h is)) (λ e. reached) event.led in
           let after = badly shape further id call event.its n b led (λ e. cc) (λ e. reached) asks in
           rw untouched.shown
-          (sunk shape past a realm since goes sink_link is_last id call one_told event heard b a.ahead a.abort output.Aborted after (told [] Lost) (lost-out call one_told event heard) rf feed old old p q [] Lost untouched.gained ([], refl)
-          (λ e. omega arith) (output-aborts a.output (shows rf feed old) is) (abort-same a.abort [] output.Aborted) (one-shut call one_told event heard a.ahead a.abort output.Aborted after (λ e. cc) refl))
+          (sunk shape past a realm since goes sink_link is_last id call one_told event heard b a.entrance.ahead a.exit.abort output.Aborted after (told [] Lost) (lost-out call one_told event heard) rf feed old old p q [] Lost untouched.gained ([], refl)
+          (λ e. omega arith) (output-aborts a.exit.output (shows rf feed old) is) (abort-same a.exit.abort [] output.Aborted) (one-shut call one_told event heard a.entrance.ahead a.exit.abort output.Aborted after (λ e. cc) refl))
 
     -- the sink is closed
-    module _ (event : AfterEvent shape past a realm (Host id (Close a.sink))) where
+    module _ (event : AfterEvent shape past a realm (Host id (Close a.exit.sink))) where
       pub closed : Finishes id was b old new p q → Handled shape a b (shows rf feed old) (shows rf feed new) p q
       closed (FinishedWell is gained calm done asks) =
-          let call = Close a.sink in
+          let call = Close a.exit.sink in
           let led = led-output shape further was output.Finished (λ h. absurd (h is)) (λ e. absurd (cc)) event.led in
-          let after = well shape further id call event.its (record was { output = output.Finished }) b led (λ e. refl) (λ s f. cc) asks in
-          sunk shape past a realm since goes sink_link is_last id call (told [] Closed) event heard-close b a.ahead a.abort output.Finished after (told [] Closed)
+          let after = well shape further id call event.its (record was { exit = record was.exit { output = output.Finished } }) b led (λ e. refl) (λ s f. cc) asks in
+          sunk shape past a realm since goes sink_link is_last id call (told [] Closed) event heard-close b a.entrance.ahead a.exit.abort output.Finished after (told [] Closed)
           (heard-out shape past a realm since goes sink_link is_last id call (told [] Closed) event heard-close) rf feed old new p q [] Closed gained (refl, refl)
-          (λ e. omega arith) (output-finishes a.output (shows rf feed old) (shows rf feed new) is calm done) (abort-same a.abort [] output.Finished)
-          (one-shut call (told [] Closed) event heard-close a.ahead a.abort output.Finished after (λ e. cc) refl)
+          (λ e. omega arith) (output-finishes a.exit.output (shows rf feed old) (shows rf feed new) is calm done) (abort-same a.exit.abort [] output.Finished)
+          (one-shut call (told [] Closed) event heard-close a.entrance.ahead a.exit.abort output.Finished after (λ e. cc) refl)
       closed (FinishedBadly is gained rose kept asks) =
-          let call = Close a.sink in
+          let call = Close a.exit.sink in
           broken call (told [] Closed) event heard-close (told [] Lost) [] is gained rose kept asks (lost-out call (told [] Closed) event heard-close) ([], refl) (λ n. omega arith)
-          (abort-same a.abort [] (shut a.output))
-      closed (FinishedNot shut_already untouched asks) = refused (Close a.sink) (told [] Closed) event heard-close shut_already untouched asks
+          (abort-same a.exit.abort [] (shut a.exit.output))
+      closed (FinishedNot shut_already untouched asks) = refused (Close a.exit.sink) (told [] Closed) event heard-close shut_already untouched asks
 
   -- of nothing whose bytes lie in the node
   module _ (e : Event) (event : AfterEvent shape past a realm e) (quiet : (k : ℕ) → k ≤ count_in shape → in_bytes (hears_in shape k e) ≡ nothing_yet) (one : HasOne was) where
@@ -316,37 +316,37 @@ module _ (rf : ℕ) (feed : Option Feed) (p q : List ℕ → Type 0) (shape : Sh
         (record {
           past = further;
           led = event.led;
-          pushes = λ h. subst (λ (n : ℕ). ArePushed n a.stages.items) (sym event.age) (since.pushes goes);
+          pushes = λ h. subst (λ (n : ℕ). ArePushed n a.core.stages.items) (sym event.age) (since.pushes goes);
           one = one;
-          went = went-rests shape a was (shows rf feed old) p q untouched.gained (going-stays a was goes) since.led.is_of.stages (record { realm = realm; stopped = a.stopped; is = refl }) unheard;
+          went = went-rests shape a was (shows rf feed old) p q untouched.gained (going-stays a was goes) since.led.is_of.stages (record { realm = realm; stopped = a.core.stopped; is = refl }) unheard;
         })
 
-    rest-goes : Goes (machines (stages_in a)) nothing_yet (parts a) (lying a) (parts was) (lying was)
+    rest-goes : Goes (machines (stages_in a.core)) nothing_yet (parts a) (lying a) (parts was) (lying was)
     rest-goes =
-        goes_rests (machines (stages_in a)) 0 (works_in a) (lies_in a) (lies_in was) (same-length a.stages.items)
+        goes_rests (machines (stages_in a.core)) 0 (works_in a.core) (lies_in a) (lies_in was) (same-length a.core.stages.items)
         (λ j p less. unheard j (let f = count-works shape past a realm since goes in omega arith))
 
     -- a pull waits
-    pub pulled : (i : StreamId) → e ≡ Host id (Pull i) → b ≡ record was { asked = Some id } → Untouched old new p q → Handled shape a b (shows rf feed old) (shows rf feed new) p q
+    pub pulled : (i : StreamId) → e ≡ Host id (Pull i) → b ≡ record was { entrance = record was.entrance { asked = Some id } } → Untouched old new p q → Handled shape a b (shows rf feed old) (shows rf feed new) p q
     pulled i is same untouched =
-        let n : Node = record was { asked = Some id } in
+        let n : Node = record was { entrance = record was.entrance { asked = Some id } } in
         rw (untouched.shown, same)
         (record {
           past = further;
           led = led-asked shape further was id (i, subst (λ x. IsItsCall (called further) x) is event.its) event.led;
-          pushes = λ h. subst (λ (k : ℕ). ArePushed k a.stages.items) (sym event.age) (since.pushes goes);
+          pushes = λ h. subst (λ (k : ℕ). ArePushed k a.core.stages.items) (sym event.age) (since.pushes goes);
           one = one;
           went = went-quietly a n (shows rf feed old) p q untouched.gained (going-stays a n goes)
               (record { taken = refl; ahead = λ h. refl; input = refl; output = refl; abort = refl; stages = refl; source = refl; sink = refl; most = refl; pipe = refl; pipes = refl }) rest-goes;
         })
 
     -- it is settled at once
-    pub settled : (call : HostCall) → e ≡ Host id call → (call ≡ Close a.sink → ⊥) → ((s : StreamId) → call ≡ Flush s → ⊥) → Settles id was b old new p q
+    pub settled : (call : HostCall) → e ≡ Host id call → (call ≡ Close a.exit.sink → ⊥) → ((s : StreamId) → call ≡ Flush s → ⊥) → Settles id was b old new p q
         → Handled shape a b (shows rf feed old) (shows rf feed new) p q
     settled call is other flush (asks, untouched) =
         let its : slice_get (called further) id.0 ≡ Some call = subst (λ x. IsItsCall (called further) x) is event.its in
         let after = well shape further id call its was b event.led (λ c. absurd (other c)) flush asks in
-        let b-is : b ≡ record a { realm = after.only.realm; stopped = after.only.stopped } = after.only.is in
+        let b-is : b ≡ record a { core = record a.core { realm = after.only.realm; stopped = after.only.stopped } } = after.only.is in
         rw untouched.shown
         (record {
           past = further ++ after.more;
@@ -354,10 +354,10 @@ module _ (rf : ℕ) (feed : Option Feed) (p q : List ℕ → Type 0) (shape : Sh
           pushes = λ h.
               let f = after.older h in
               let g = event.age in
-              subst (ArePushed b.realm.slots.age) (sym (ap (λ (n : Node). n.stages.items) b-is)) (all-more a.realm.slots.age b.realm.slots.age a.stages.items (omega arith) (since.pushes goes));
+              subst (ArePushed b.core.realm.slots.age) (sym (ap (λ (n : Node). n.core.stages.items) b-is)) (all-more a.core.realm.slots.age b.core.realm.slots.age a.core.stages.items (omega arith) (since.pushes goes));
           one = λ h.
-              subst (λ (k : ℕ). OneAtMost k (behind_at 0 b.realm.slots).items) (sym (ap (λ (n : Node). n.ahead) b-is))
-              (after.one a.ahead (one (subst (λ (n : Node). may_have n.stages.items n.output n.abort ≡ true) b-is h)));
+              subst (λ (k : ℕ). OneAtMost k (behind_at 0 b.core.realm.slots).items) (sym (ap (λ (n : Node). n.entrance.ahead) b-is))
+              (after.one a.entrance.ahead (one (subst (λ (n : Node). may_have n.core.stages.items n.exit.output n.exit.abort ≡ true) b-is h)));
           went = went-rests shape a b (shows rf feed old) p q untouched.gained (going-stays a b goes) since.led.is_of.stages (record { realm = after.only.realm; stopped = after.only.stopped; is = b-is })
               (λ k less. subst (λ (z : Told (List ℕ)). IsShortOf (lies_to z b k) (lies_in a k)) (sym (ap (λ (n : Node). coming n k) b-is))
               (short_trans _ _ _ (after.lies (coming a k) k less) (unheard k less)));

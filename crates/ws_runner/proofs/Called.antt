@@ -36,13 +36,13 @@ module _ (shape : Shape) (past : List Entry) (n : Node) (id : HostId) (call : Ho
   same-call i other e c =
       some_same call other (sym is ∙ (ap (λ (h : HostId). slice_get (called past) h.0) (id_of id i x e) ∙ c))
 
-  pub may-settle : All (IsCause n) (failure_of (Settle id x)) → (call ≡ Close n.sink → x ≡ AnswerOk → n.output ≡ output.Finished)
-      → ((i : StreamId) → call ≡ Flush i → x ≡ AnswerOk → (first last : List State) (w : State) → IsAt i n.stages.items first w last → w.work ≡ Over Fine)
+  pub may-settle : All (IsCause n) (failure_of (Settle id x)) → (call ≡ Close n.exit.sink → x ≡ AnswerOk → n.exit.output ≡ output.Finished)
+      → ((i : StreamId) → call ≡ Flush i → x ≡ AnswerOk → (first last : List State) (w : State) → IsAt i n.core.stages.items first w last → w.work ≡ Over Fine)
       → MayAsk shape past n (Settle id x)
   may-settle failed close flush =
       record {
         is_own = tt;
         failed = failed;
-        closes = λ i e c. close (same-call i (Close n.sink) e c) (answer_of id i x e);
+        closes = λ i e c. close (same-call i (Close n.exit.sink) e c) (answer_of id i x e);
         flushes = λ i s e c first last w at. flush s (same-call i (Flush s) e c) (answer_of id i x e) first last w at;
       }

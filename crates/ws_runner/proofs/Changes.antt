@@ -39,9 +39,9 @@ pub all-causes : (a b : Node) (rs : List Plain) → ((f : Fault) → IsCauseFaul
 all-causes a b [] h c = All-nil (IsCause b)
 all-causes a b (r ∷ rs) h c = All-cons (IsCause b) r rs (cause-stays a b r h (All-head (IsCause a) r rs c)) (all-causes a b rs h (All-tail (IsCause a) r rs c))
 
-pub led-ahead : (shape : Shape) (past : List Entry) (n : Node) (k : ℕ) → k ≤ n.ahead → Led shape past n → Led shape past (record n { ahead = k })
+pub led-ahead : (shape : Shape) (past : List Entry) (n : Node) (k : ℕ) → k ≤ n.entrance.ahead → Led shape past n → Led shape past (record n { entrance = record n.entrance { ahead = k } })
 led-ahead shape past n k less s =
-    let c : Node = record n { ahead = k } in
+    let c : Node = record n { entrance = record n.entrance { ahead = k } } in
     let counts = s.counts in
     record {
       is_of = record { fit = s.is_of.fit; from = s.is_of.from; into = s.is_of.into; stages = s.is_of.stages; source = s.is_of.source; sink = s.is_of.sink; most = s.is_of.most; signal = s.is_of.signal };
@@ -64,7 +64,7 @@ led-ahead shape past n k less s =
           };
       spent = s.spent;
     } where
-      same : (f : Fault) → IsCauseFault n f → IsCauseFault (record n { ahead = k }) f
+      same : (f : Fault) → IsCauseFault n f → IsCauseFault (record n { entrance = record n.entrance { ahead = k } }) f
       same fault.Read h = h
       same fault.TooMuch h = h
       same fault.Write h = h
@@ -72,14 +72,14 @@ led-ahead shape past n k less s =
       same fault.Abort h = h
       same _ h = absurd h
 
-pub led-output : (shape : Shape) (past : List Entry) (n : Node) (o : Output) → (n.output ≢ output.Open → o ≡ n.output) → (o ≡ output.Aborted → is_reached n.abort ≡ true) → Led shape past n
-    → Led shape past (record n { output = o })
+pub led-output : (shape : Shape) (past : List Entry) (n : Node) (o : Output) → (n.exit.output ≢ output.Open → o ≡ n.exit.output) → (o ≡ output.Aborted → is_reached n.exit.abort ≡ true) → Led shape past n
+    → Led shape past (record n { exit = record n.exit { output = o } })
 led-output shape past n o stays reached s =
     record {
       is_of = record { fit = s.is_of.fit; from = s.is_of.from; into = s.is_of.into; stages = s.is_of.stages; source = s.is_of.source; sink = s.is_of.sink; most = s.is_of.most; signal = s.is_of.signal };
       ran = s.ran;
       piped = s.piped;
-      failed = all-causes n (record n { output = o }) (failures past) same s.failed;
+      failed = all-causes n (record n { exit = record n.exit { output = o } }) (failures past) same s.failed;
       closes = λ before after id e c. let was = s.closes before after id e c in stays (λ f. absurd (cc)) ∙ was;
       flushes = s.flushes;
       asked = s.asked;
@@ -88,7 +88,7 @@ led-output shape past n o stays reached s =
       counts = s.counts;
       spent = s.spent;
     } where
-      same : (f : Fault) → IsCauseFault n f → IsCauseFault (record n { output = o }) f
+      same : (f : Fault) → IsCauseFault n f → IsCauseFault (record n { exit = record n.exit { output = o } }) f
       same fault.Read h = h
       same fault.TooMuch h = h
       same fault.Write h = subst (λ q. (q ≢ output.Open) × (q ≢ output.Aborted)) (sym (stays h.0)) h
@@ -96,14 +96,14 @@ led-output shape past n o stays reached s =
       same fault.Abort h = h
       same _ h = absurd h
 
-pub led-abort : (shape : Shape) (past : List Entry) (n : Node) (x : Option Abort) → option_map (λ a. a.signal) x ≡ option_map (λ a. a.signal) n.abort
-    → (is_reached n.abort ≡ true → is_reached x ≡ true) → Led shape past n → Led shape past (record n { abort = x })
+pub led-abort : (shape : Shape) (past : List Entry) (n : Node) (x : Option Abort) → option_map (λ a. a.signal) x ≡ option_map (λ a. a.signal) n.exit.abort
+    → (is_reached n.exit.abort ≡ true → is_reached x ≡ true) → Led shape past n → Led shape past (record n { exit = record n.exit { abort = x } })
 led-abort shape past n x same_signal reached s =
     record {
       is_of = record { fit = s.is_of.fit; from = s.is_of.from; into = s.is_of.into; stages = s.is_of.stages; source = s.is_of.source; sink = s.is_of.sink; most = s.is_of.most; signal = same_signal ∙ s.is_of.signal };
       ran = s.ran;
       piped = s.piped;
-      failed = all-causes n (record n { abort = x }) (failures past) same s.failed;
+      failed = all-causes n (record n { exit = record n.exit { abort = x } }) (failures past) same s.failed;
       closes = s.closes;
       flushes = s.flushes;
       asked = s.asked;
@@ -112,7 +112,7 @@ led-abort shape past n x same_signal reached s =
       counts = s.counts;
       spent = s.spent;
     } where
-      same : (f : Fault) → IsCauseFault n f → IsCauseFault (record n { abort = x }) f
+      same : (f : Fault) → IsCauseFault n f → IsCauseFault (record n { exit = record n.exit { abort = x } }) f
       same fault.Read h = h
       same fault.TooMuch h = h
       same fault.Write h = h
@@ -120,13 +120,13 @@ led-abort shape past n x same_signal reached s =
       same fault.Abort h = reached h
       same _ h = absurd h
 
-pub led-asked : (shape : Shape) (past : List Entry) (n : Node) (id : HostId) → IsPull past (Some id) → Led shape past n → Led shape past (record n { asked = Some id })
+pub led-asked : (shape : Shape) (past : List Entry) (n : Node) (id : HostId) → IsPull past (Some id) → Led shape past n → Led shape past (record n { entrance = record n.entrance { asked = Some id } })
 led-asked shape past n id pull s =
     record {
       is_of = record { fit = s.is_of.fit; from = s.is_of.from; into = s.is_of.into; stages = s.is_of.stages; source = s.is_of.source; sink = s.is_of.sink; most = s.is_of.most; signal = s.is_of.signal };
       ran = s.ran;
       piped = s.piped;
-      failed = all-causes n (record n { asked = Some id }) (failures past) same s.failed;
+      failed = all-causes n (record n { entrance = record n.entrance { asked = Some id } }) (failures past) same s.failed;
       closes = s.closes;
       flushes = s.flushes;
       asked = pull;
@@ -135,7 +135,7 @@ led-asked shape past n id pull s =
       counts = s.counts;
       spent = s.spent;
     } where
-      same : (f : Fault) → IsCauseFault n f → IsCauseFault (record n { asked = Some id }) f
+      same : (f : Fault) → IsCauseFault n f → IsCauseFault (record n { entrance = record n.entrance { asked = Some id } }) f
       same fault.Read h = h
       same fault.TooMuch h = h
       same fault.Write h = h
@@ -144,13 +144,13 @@ led-asked shape past n id pull s =
       same _ h = absurd h
 
 -- no pull waits
-pub led-unasked : (shape : Shape) (past : List Entry) (n : Node) → Led shape past n → Led shape past (record n { asked = None })
+pub led-unasked : (shape : Shape) (past : List Entry) (n : Node) → Led shape past n → Led shape past (record n { entrance = record n.entrance { asked = None } })
 led-unasked shape past n s =
     record {
       is_of = record { fit = s.is_of.fit; from = s.is_of.from; into = s.is_of.into; stages = s.is_of.stages; source = s.is_of.source; sink = s.is_of.sink; most = s.is_of.most; signal = s.is_of.signal };
       ran = s.ran;
       piped = s.piped;
-      failed = all-causes n (record n { asked = None }) (failures past) same s.failed;
+      failed = all-causes n (record n { entrance = record n.entrance { asked = None } }) (failures past) same s.failed;
       closes = s.closes;
       flushes = s.flushes;
       asked = tt;
@@ -159,7 +159,7 @@ led-unasked shape past n s =
       counts = s.counts;
       spent = s.spent;
     } where
-      same : (f : Fault) → IsCauseFault n f → IsCauseFault (record n { asked = None }) f
+      same : (f : Fault) → IsCauseFault n f → IsCauseFault (record n { entrance = record n.entrance { asked = None } }) f
       same fault.Read h = h
       same fault.TooMuch h = h
       same fault.Write h = h
@@ -169,9 +169,9 @@ led-unasked shape past n s =
 
 -- a node that answers the pull that waited
 abbrev pub answering : ℕ → ℕ → Input → Node → Node
-answering taken ahead i n = record n { taken = taken; ahead = ahead; input = i; asked = None }
+answering taken ahead i n = record n { entrance = record n.entrance { taken = taken; ahead = ahead; input = i; asked = None } }
 
-pub led-input : (shape : Shape) (past : List Entry) (n : Node) (taken ahead : ℕ) (i : Input) → n.input ≡ input.Open → Counts n.most taken ahead i → Led shape past n
+pub led-input : (shape : Shape) (past : List Entry) (n : Node) (taken ahead : ℕ) (i : Input) → n.entrance.input ≡ input.Open → Counts n.entrance.most taken ahead i → Led shape past n
     → Led shape past (answering taken ahead i n)
 led-input shape past n taken ahead i was_open counts s =
     record {
@@ -235,28 +235,28 @@ stages-stay [] after w v e = ap (λ q. q ∷ map (λ q. q.stage) after) e
 stages-stay (b ∷ before) after w v e = ap (λ q. b.stage ∷ q) (stages-stay before after w v e)
 
 -- a stage that could be asked was
-pub led-stages : (shape : Shape) (past : List Entry) (n c : Node) (before after : List State) (w v : State) → n.stages.items ≡ before ++ w ∷ after → IsLive w.work → v.stage ≡ w.stage
+pub led-stages : (shape : Shape) (past : List Entry) (n c : Node) (before after : List State) (w v : State) → n.core.stages.items ≡ before ++ w ∷ after → IsLive w.work → v.stage ≡ w.stage
     → HasStages (before ++ v ∷ after) n c → Led shape past n → Led shape past c
 led-stages shape past n c before after w v whole live same_stage has s = subst (λ q. Led shape past q) (sym has.is) led where
-  same : (f : Fault) → IsCauseFault n f → IsCauseFault (record n { stages = c.stages }) f
+  same : (f : Fault) → IsCauseFault n f → IsCauseFault (record n { core = record n.core { stages = c.core.stages } }) f
   same fault.Read h = h
   same fault.TooMuch h = h
   same fault.Write h = h
-  same (fault.Stage index code place) h = ended-stays before after w v index code place n.stages.items c.stages.items whole has.items live h
+  same (fault.Stage index code place) h = ended-stays before after w v index code place n.core.stages.items c.core.stages.items whole has.items live h
   same fault.Abort h = h
   same _ h = absurd h
 
-  kept : stages_in c ≡ stages_in n
+  kept : stages_in c.core ≡ stages_in n.core
   kept = ap (λ q. map (λ q. q.stage) q) has.items ∙ stages-stay before after w v same_stage ∙ sym (ap (λ q. map (λ q. q.stage) q) whole)
 
-  led : Led shape past (record n { stages = c.stages })
+  led : Led shape past (record n { core = record n.core { stages = c.core.stages } })
   led = record {
     is_of = record { fit = s.is_of.fit; from = s.is_of.from; into = s.is_of.into; stages = kept ∙ s.is_of.stages; source = s.is_of.source; sink = s.is_of.sink; most = s.is_of.most; signal = s.is_of.signal };
     ran = s.ran;
     piped = s.piped;
-    failed = all-causes n (record n { stages = c.stages }) (failures past) same s.failed;
+    failed = all-causes n (record n { core = record n.core { stages = c.core.stages } }) (failures past) same s.failed;
     closes = s.closes;
-    flushes = fine-stays past before after w v n.stages.items c.stages.items whole has.items live s.flushes;
+    flushes = fine-stays past before after w v n.core.stages.items c.core.stages.items whole has.items live s.flushes;
     asked = s.asked;
     aborts = s.aborts;
     age = s.age;
@@ -264,7 +264,7 @@ led-stages shape past n c before after w v whole live same_stage has s = subst (
     spent = s.spent;
   }
 
-pub led-stopped : (shape : Shape) (past : List Entry) (n : Node) (why : Why) → (why ≡ Spent → n.realm.slots.age ≡ oldest) → Led shape past n → Led shape past (stopped_by why n)
+pub led-stopped : (shape : Shape) (past : List Entry) (n : Node) (why : Why) → (why ≡ Spent → n.core.realm.slots.age ≡ oldest) → Led shape past n → Led shape past (stopped_by why n)
 led-stopped shape past n why spent s =
     record {
       is_of = record { fit = s.is_of.fit; from = s.is_of.from; into = s.is_of.into; stages = s.is_of.stages; source = s.is_of.source; sink = s.is_of.sink; most = s.is_of.most; signal = s.is_of.signal };

@@ -130,7 +130,7 @@ all_there : (gain rest : List ℕ) → length rest ≡ 0 → gain ++ rest ≡ ga
 all_there gain [] e = append-nil gain
 all_there gain (x ∷ rest) e = absurd (omega arith)
 
-module _ (plan : Plan) (a n : Node) (m₀ m₁ : Moment) (p q : List ℕ → Type 0) (new : IsNew plan a) (w : Went a n m₀ m₁ p q) (counts : HasCounts n) where
+module _ (plan : Plan) (a n : Node) (m₀ m₁ : Moment) (p q : List ℕ → Type 0) (new : IsNew plan a) (w : Went a n m₀ m₁ p q) (counts : HasCounts n.entrance) where
   abbrev taken : List ℕ
   taken = concat w.read.items
 
@@ -143,17 +143,17 @@ module _ (plan : Plan) (a n : Node) (m₀ m₁ : Moment) (p q : List ℕ → Typ
   before : IsBefore got (out_of plan taken w.read.mark)
   before = flow.before plan n m₀ m₁ w.read w.went w.gain w.out gone
 
-  within_most : n.taken ≡ length taken
+  within_most : n.entrance.taken ≡ length taken
   within_most = let counted = w.from.counted in let from = new.taken in omega arith
 
-  most : n.most ≡ nat_abs plan.max_input
+  most : n.entrance.most ≡ nat_abs plan.max_input
   most = w.from.most ∙ new.is_of.most
 
-  whole : n.output ≡ output.Finished → IsDone plan m₀ m₁ taken w.gain
+  whole : n.exit.output ≡ output.Finished → IsDone plan m₀ m₁ taken w.gain
   whole done =
-      let o = output-finished a.output n.output w.gain w.out m₀ m₁ new.output done w.into.output in
+      let o = output-finished a.exit.output n.exit.output w.gain w.out m₀ m₁ new.output done w.into.output in
       let c = flow.closed plan n m₀ m₁ w.read w.went w.gain w.out gone o.0 in
-      let i = input-ended a.input n.input w.read m₀ m₁ new.input c.1.closed w.from.input in
+      let i = input-ended a.entrance.input n.entrance.input w.read m₀ m₁ new.input c.1.closed w.from.input in
       let within = counts.within (λ e. let f = i.3 in cc) in
       let same = within_most in
       let limit = most in
@@ -167,10 +167,10 @@ module _ (plan : Plan) (a n : Node) (m₀ m₁ : Moment) (p q : List ℕ → Typ
         finished = o.2;
       }
 
-  no_stages : stages_of plan ≡ [] → a.stages.items ≡ []
-  no_stages e = none_mapped a.stages.items (new.is_of.stages ∙ e)
+  no_stages : stages_of plan ≡ [] → a.core.stages.items ≡ []
+  no_stages e = none_mapped a.core.stages.items (new.is_of.stages ∙ e)
 
-  nothing_left : stages_of plan ≡ [] → n.input ≡ input.Failed → w.gain ≡ taken
+  nothing_left : stages_of plan ≡ [] → n.entrance.input ≡ input.Failed → w.gain ≡ taken
   nothing_left e failed =
       let none = counts.failed failed in
       let ahead = w.ahead (no_stages e) in
@@ -182,9 +182,9 @@ module _ (plan : Plan) (a n : Node) (m₀ m₁ : Moment) (p q : List ℕ → Typ
   allows : (status : Status) → EndsBy status n → Allows status plan w.read.mark m₀ m₁ taken w.gain
   allows Done by = whole by
   allows (StageIs index code place) by = flow.bad plan n m₀ m₁ w.read w.went w.gain w.out gone index code place by.1
-  allows ReadFault by = ((λ e. nothing_left e by.1), input-failed a.input n.input w.read m₀ m₁ new.input by.1 w.from.input)
-  allows WriteFault by = output-failed a.output n.output w.gain w.out m₀ m₁ new.output by w.into.output
-  allows AbortedIs by = abort-reached plan.abort_after a.abort n.abort w.went.items w.gain n.output new.abort w.into.abort by.1
+  allows ReadFault by = ((λ e. nothing_left e by.1), input-failed a.entrance.input n.entrance.input w.read m₀ m₁ new.input by.1 w.from.input)
+  allows WriteFault by = output-failed a.exit.output n.exit.output w.gain w.out m₀ m₁ new.output by w.into.output
+  allows AbortedIs by = abort-reached plan.abort_after a.exit.abort n.exit.abort w.went.items w.gain n.exit.output new.abort w.into.abort by.1
   allows NoMemory by = tt
   allows TooMuch by =
       let beyond = counts.beyond by.1 in
@@ -193,8 +193,8 @@ module _ (plan : Plan) (a n : Node) (m₀ m₁ : Moment) (p q : List ℕ → Typ
       omega arith
   allows _ by = absurd by
 
-  kept : n.output ≢ output.Finished → KeepsTold m₀.finished m₁.finished
-  kept other = output-unfinished a.output n.output w.gain w.out m₀ m₁ new.output other w.into.output
+  kept : n.exit.output ≢ output.Finished → KeepsTold m₀.finished m₁.finished
+  kept other = output-unfinished a.exit.output n.exit.output w.gain w.out m₀ m₁ new.output other w.into.output
 
   leaves : (status : Status) → EndsBy status n → Leaves status m₀ m₁
   leaves Done by = tt
@@ -208,10 +208,10 @@ module _ (plan : Plan) (a n : Node) (m₀ m₁ : Moment) (p q : List ℕ → Typ
 
   reads : (m : Mark) → w.read.mark ≡ m → ReadAs m m₀ m₁
   reads MayCome e = tt
-  reads Broken e = input-unbroken a.input n.input w.read m₀ m₁ e w.from.input
+  reads Broken e = input-unbroken a.entrance.input n.entrance.input w.read m₀ m₁ e w.from.input
   reads Lost e = tt
   reads Closed e =
-      let i = input-ended a.input n.input w.read m₀ m₁ new.input e w.from.input in
+      let i = input-ended a.entrance.input n.entrance.input w.read m₀ m₁ new.input e w.from.input in
       record { ended = i.1; emptied = i.2; calm = i.0 }
 
   ends-with : (status : Status) → EndsBy status n → Ends status plan m₀ m₁ p q
@@ -231,7 +231,7 @@ module _ (plan : Plan) (a n : Node) (m₀ m₁ : Moment) (p q : List ℕ → Typ
         first = before_front got (out_of plan taken w.read.mark) before;
         bound = omega arith;
         ahead_by = λ e. let ahead = w.ahead (no_stages e) in omega arith;
-        abort = abort-within plan.abort_after a.abort n.abort w.went.items w.gain n.output new.abort w.into.abort;
+        abort = abort-within plan.abort_after a.exit.abort n.exit.abort w.went.items w.gain n.exit.output new.abort w.into.abort;
         allowed = allows status by;
         finish_kept = leaves status by;
       }

@@ -102,7 +102,7 @@ module _ (plan : Plan) (n : Node) (m₀ m₁ : Moment) (read went : Told (List �
             (r.0, λ i less. subst (λ (m : Mark). ending_of plan i taken m ≡ Fine) r.0 (r.1 i (omega arith)));
       }
 
-  pub bad : (index code place : ℕ) → EndedAs index code place n.stages.items → IsBad plan index code place read.mark taken
+  pub bad : (index code place : ℕ) → EndedAs index code place n.core.stages.items → IsBad plan index code place read.mark taken
   bad index code place e =
       let numbered = e.numbered in
       bad-by index code place (length e.before) (omega arith)
@@ -128,7 +128,7 @@ module _ (plan : Plan) (n : Node) (m₀ m₁ : Moment) (read went : Told (List �
         first = before_trans went (then_told went (lying n)) (all_through ms read) (before_then went (lying n)) (flows_before ms read (parts n) (then_told went (lying n)) flows);
         gained = before;
         whole = flows_whole ms read (parts n) (then_told went (lying n)) flows;
-        finished = λ e. is-whole (finished-closed a.output n.output gain out m₀ m₁ new.output e h.output);
-        near = λ after e. near-by plan after a.abort n.abort went.items gain n.output e new.abort h.abort;
+        finished = λ e. is-whole (finished-closed a.exit.output n.exit.output gain out m₀ m₁ new.output e h.output);
+        near = λ after e. near-by plan after a.exit.abort n.exit.abort went.items gain n.exit.output e new.abort h.abort;
         bad = bad;
       }

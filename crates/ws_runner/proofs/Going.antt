@@ -23,6 +23,8 @@ use Rattle.ws_io.specs.Moment.{Moment}
 use Rattle.ws_realm.specs.declared.realm.Why.{Why}
 use Rattle.ws_stages.specs.State.{State}
 use Rattle.ws_runner.specs.declared.node.Abort.{Abort}
+use Rattle.ws_runner.specs.declared.node.Entrance.{Entrance}
+use Rattle.ws_runner.specs.declared.node.Exit.{Exit}
 use Rattle.ws_runner.specs.declared.node.Input.{Input}
 use Rattle.ws_runner.specs.declared.node.Input.TheVariants as input
 use Rattle.ws_runner.specs.declared.node.Node.{Node}
@@ -323,7 +325,7 @@ core-then a b c ms ns first second =
       pipes = second.pipes ∙ first.pipes;
     }
 
-pub from-then : (a b c : Node) (x y : Told (List ℕ)) (m₀ m₁ m₂ : Moment) → FromGoes a b m₀ m₁ x → FromGoes b c m₁ m₂ y → FromGoes a c m₀ m₂ (then_told x y)
+pub from-then : (a b c : Entrance) (x y : Told (List ℕ)) (m₀ m₁ m₂ : Moment) → FromGoes a b m₀ m₁ x → FromGoes b c m₁ m₂ y → FromGoes a c m₀ m₂ (then_told x y)
 from-then a b c x y m₀ m₁ m₂ first second =
     let reads = input-then a.input b.input c.input x y m₀ m₁ m₂ first.input second.input in
     let counted = first.counted in
@@ -338,7 +340,7 @@ from-then a b c x y m₀ m₁ m₂ first second =
       most = second.most ∙ first.most;
     }
 
-pub into-then : (a b c : Node) (x y : Told (List ℕ)) (g h : List ℕ) (o n : Mark) (m₀ m₁ m₂ : Moment) (p q r : List ℕ → Type 0) → ToGoes a b m₀ m₁ p q x g o → ToGoes b c m₁ m₂ q r y h n
+pub into-then : (a b c : Exit) (x y : Told (List ℕ)) (g h : List ℕ) (o n : Mark) (m₀ m₁ m₂ : Moment) (p q r : List ℕ → Type 0) → ToGoes a b m₀ m₁ p q x g o → ToGoes b c m₁ m₂ q r y h n
     → ToGoes a c m₀ m₂ p r (then_told x y) (g ++ h) (mark_then o n)
 into-then a b c x y g h o n m₀ m₁ m₂ p q r first second =
     let writes = output-then a.output b.output c.output g h o n m₀ m₁ m₂ first.output second.output in
@@ -358,7 +360,7 @@ into-then a b c x y g h o n m₀ m₁ m₂ p q r first second =
 -- one after another
 pub went-then : (a b c : Node) (m₀ m₁ m₂ : Moment) (p q r : List ℕ → Type 0) → Went a b m₀ m₁ p q → Went b c m₁ m₂ q r → Went a c m₀ m₂ p r
 went-then a b c m₀ m₁ m₂ p q r first second =
-    let reads = input-then a.input b.input c.input first.read second.read m₀ m₁ m₂ first.from.input second.from.input in
+    let reads = input-then a.entrance.input b.entrance.input c.entrance.input first.read second.read m₀ m₁ m₂ first.from.input second.from.input in
     let some : length (concat (then_told first.read second.read).items) ≡ length (concat first.read.items) + length (concat second.read.items) =
     ap length reads.joined ∙ length-append (concat first.read.items) (concat second.read.items) in
     record {
@@ -367,15 +369,15 @@ went-then a b c m₀ m₁ m₂ p q r first second =
       gain = first.gain ++ second.gain;
       out = mark_then first.out second.out;
       core = core-then a b c (record { came = first.read; went = first.went } ∷ []) (record { came = second.read; went = second.went } ∷ []) first.core second.core;
-      from = from-then a b c first.read second.read m₀ m₁ m₂ first.from second.from;
-      into = into-then a b c first.went second.went first.gain second.gain first.out second.out m₀ m₁ m₂ p q r first.into second.into;
+      from = from-then a.entrance b.entrance c.entrance first.read second.read m₀ m₁ m₂ first.from second.from;
+      into = into-then a.exit b.exit c.exit first.went second.went first.gain second.gain first.out second.out m₀ m₁ m₂ p q r first.into second.into;
       ahead = λ none.
           let ahead = first.ahead none in
-          let ahead₂ = second.ahead (no-stages a.stages.items b.stages.items first.core.moves.0.stages none) in
+          let ahead₂ = second.ahead (no-stages a.core.stages.items b.core.stages.items first.core.moves.0.stages none) in
           omega (arith, length-append first.gain second.gain);
       stays = λ why e.
           let x = first.stays why e in
-          let y = second.stays why (ap (λ (n : Node). n.stopped) x.same ∙ e) in
+          let y = second.stays why (ap (λ (n : Node). n.core.stopped) x.same ∙ e) in
           record {
             same = y.same ∙ x.same;
             still = y.still ∙ x.still;
@@ -386,27 +388,27 @@ went-then a b c m₀ m₁ m₂ p q r first second =
 
 -- one that had stopped is as it was
 abbrev pub Stays : Node → Node → Type 0
-Stays a b = (why : Why) → a.stopped ≡ Some why → b ≡ a
+Stays a b = (why : Why) → a.core.stopped ≡ Some why → b ≡ a
 
-pub going-stays : (a b : Node) → a.stopped ≡ None → Stays a b
+pub going-stays : (a b : Node) → a.core.stopped ≡ None → Stays a b
 going-stays a b goes why e = absurd (let f : None ≡ Some why = sym goes ∙ e in cc)
 
-pub going-acts : (a b : Node) (m₀ m₁ : Moment) (read : Told (List ℕ)) (gain : List ℕ) → a.stopped ≡ None → (why : Why) → a.stopped ≡ Some why → DoesNothing a b m₀ m₁ read gain
+pub going-acts : (a b : Node) (m₀ m₁ : Moment) (read : Told (List ℕ)) (gain : List ℕ) → a.core.stopped ≡ None → (why : Why) → a.core.stopped ≡ Some why → DoesNothing a b m₀ m₁ read gain
 going-acts a b m₀ m₁ read gain goes why e = absurd (let f : None ≡ Some why = sym goes ∙ e in cc)
 
 -- what a step that neither reads nor writes leaves of a node's own counts
 pub record SameCounts (a b : Node) : Type 0 where
-  pub taken : b.taken ≡ a.taken
-  pub ahead : a.stages.items ≡ [] → b.ahead ≡ a.ahead
-  pub input : b.input ≡ a.input
-  pub output : b.output ≡ a.output
-  pub abort : b.abort ≡ a.abort
-  pub stages : stages_in b ≡ stages_in a
-  pub source : b.source ≡ a.source
-  pub sink : b.sink ≡ a.sink
-  pub most : b.most ≡ a.most
-  pub pipe : b.pipe ≡ a.pipe
-  pub pipes : b.pipes_before ≡ a.pipes_before
+  pub taken : b.entrance.taken ≡ a.entrance.taken
+  pub ahead : a.core.stages.items ≡ [] → b.entrance.ahead ≡ a.entrance.ahead
+  pub input : b.entrance.input ≡ a.entrance.input
+  pub output : b.exit.output ≡ a.exit.output
+  pub abort : b.exit.abort ≡ a.exit.abort
+  pub stages : stages_in b.core ≡ stages_in a.core
+  pub source : b.entrance.source ≡ a.entrance.source
+  pub sink : b.exit.sink ≡ a.exit.sink
+  pub most : b.entrance.most ≡ a.entrance.most
+  pub pipe : b.core.pipe ≡ a.core.pipe
+  pub pipes : b.core.pipes_before ≡ a.core.pipes_before
 
 pub only-same : (a b : Node) → OnlyRealm a b → SameCounts a b
 only-same a b only =
@@ -414,7 +416,7 @@ only-same a b only =
 
 -- nothing was read or written, and what lies in the node went on
 pub went-quietly : (a b : Node) (m : Moment) (p q : List ℕ → Type 0) → Gains p q [] → Stays a b → SameCounts a b
-    → Goes (machines (stages_in a)) nothing_yet (parts a) (lying a) (parts b) (lying b) → Went a b m m p q
+    → Goes (machines (stages_in a.core)) nothing_yet (parts a) (lying a) (parts b) (lying b) → Went a b m m p q
 went-quietly a b m p q gained stays same goes =
     let taken = same.taken in
     record {
@@ -427,15 +429,15 @@ went-quietly a b m p q gained stays same goes =
         fed = Fed-nothing m.feed;
         short = All-nil (λ c. length c ≤ 4096);
         counted = omega arith;
-        input = subst (λ x. InputGoes a.input x nothing_yet m m) (sym same.input) (input-same a.input m);
+        input = subst (λ x. InputGoes a.entrance.input x nothing_yet m m) (sym same.input) (input-same a.entrance.input m);
         source = same.source;
         most = same.most;
       };
       into = record {
         gained = gained;
         written = (refl, refl);
-        output = subst (λ x. OutputGoes a.output x [] MayCome m m) (sym same.output) (output-same a.output m);
-        abort = subst (λ x. AbortGoes a.abort x [] [] b.output) (sym same.abort) (abort-same a.abort [] b.output);
+        output = subst (λ x. OutputGoes a.exit.output x [] MayCome m m) (sym same.output) (output-same a.exit.output m);
+        abort = subst (λ x. AbortGoes a.exit.abort x [] [] b.exit.output) (sym same.abort) (abort-same a.exit.abort [] b.exit.output);
         sink = same.sink;
       };
       ahead = λ none. let ahead = same.ahead none in omega arith;
@@ -451,30 +453,30 @@ length-works [] = refl
 length-works (w ∷ ws) = ap suc (length-works ws)
 
 -- as many machines as works
-pub as-many : (a : Node) → length (machines (stages_in a)) ≡ length (works_in a)
-as-many a = length-machines (stages_in a) ∙ sym (length-works a.stages.items)
+pub as-many : (a : Node) → length (machines (stages_in a.core)) ≡ length (works_in a.core)
+as-many a = length-machines (stages_in a.core) ∙ sym (length-works a.core.stages.items)
 
-pub works-count : (shape : Shape) (a : Node) → stages_in a ≡ shape.stages → length (works_in a) ≡ count_in shape
-works-count shape a stages = length-works a.stages.items ∙ ap length stages
+pub works-count : (shape : Shape) (a : Node) → stages_in a.core ≡ shape.stages → length (works_in a.core) ≡ count_in shape
+works-count shape a stages = length-works a.core.stages.items ∙ ap length stages
 
 pub went-same : (a : Node) (m : Moment) (p : List ℕ → Type 0) → Went a a m m p p
 went-same a m p =
     went-quietly a a m p p (Gains-nothing p) (λ why e. refl)
     (record { taken = refl; ahead = λ e. refl; input = refl; output = refl; abort = refl; stages = refl; source = refl; sink = refl; most = refl; pipe = refl; pipes = refl })
-    (goes_rests (machines (stages_in a)) 0 (works_in a) (lies_in a) (lies_in a) (as-many a) (λ j h k. short_refl (lies_in a j)))
+    (goes_rests (machines (stages_in a.core)) 0 (works_in a.core) (lies_in a) (lies_in a) (as-many a) (λ j h k. short_refl (lies_in a j)))
 
 -- only the realm changed, and of what lay at each place nothing is lost unseen
-pub went-rests : (shape : Shape) (a b : Node) (m : Moment) (p q : List ℕ → Type 0) → Gains p q [] → Stays a b → stages_in a ≡ shape.stages → OnlyRealm a b
+pub went-rests : (shape : Shape) (a b : Node) (m : Moment) (p q : List ℕ → Type 0) → Gains p q [] → Stays a b → stages_in a.core ≡ shape.stages → OnlyRealm a b
     → ((k : ℕ) → k ≤ count_in shape → IsShortOf (lies_in b k) (lies_in a k)) → Went a b m m p q
 went-rests shape a b m p q gained stays stages only short =
     went-quietly a b m p q gained stays (only-same a b only)
-    (subst (λ (ws : List AtWork). Goes (machines (stages_in a)) nothing_yet (parts a) (lying a) (parts_at 0 ws (lies_in b)) (behind_of 0 ws (lies_in b))) (sym works)
-    (goes_rests (machines (stages_in a)) 0 (works_in a) (lies_in a) (lies_in b) (as-many a) (λ j h k. short j (let l = works-count shape a stages in omega arith)))) where
-      works : works_in b ≡ works_in a
-      works = ap works_in only.is
+    (subst (λ (ws : List AtWork). Goes (machines (stages_in a.core)) nothing_yet (parts a) (lying a) (parts_at 0 ws (lies_in b)) (behind_of 0 ws (lies_in b))) (sym works)
+    (goes_rests (machines (stages_in a.core)) 0 (works_in a.core) (lies_in a) (lies_in b) (as-many a) (λ j h k. short j (let l = works-count shape a stages in omega arith)))) where
+      works : works_in b.core ≡ works_in a.core
+      works = ap (λ (q : Node). works_in q.core) only.is
 
 -- the flow since a node was made goes on
-pub fed-went : (ss : List Stage) (a b : Node) (m₀ m₁ : Moment) (p q : List ℕ → Type 0) → IsFed ss a → stages_in a ≡ ss → Went a b m₀ m₁ p q → IsFed ss b
+pub fed-went : (ss : List Stage) (a b : Node) (m₀ m₁ : Moment) (p q : List ℕ → Type 0) → IsFed ss a → stages_in a.core ≡ ss → Went a b m₀ m₁ p q → IsFed ss b
 fed-went ss a b m₀ m₁ p q fed stages went =
     let ms : List Machine = machines ss in
     let goes : Goes ms went.read (parts a) (lying a) (parts b) (then_told went.went (lying b)) =
@@ -483,7 +485,7 @@ fed-went ss a b m₀ m₁ p q fed stages went =
       came = then_told fed.came went.read;
       went = then_told fed.went went.went;
       short = short-pieces fed.came went.read fed.short went.from.short;
-      goes_on = still-open a.output b.output went.gain went.out fed.went went.went m₀ m₁ went.into.output went.into.written fed.goes_on;
+      goes_on = still-open a.exit.output b.exit.output went.gain went.out fed.went went.went m₀ m₁ went.into.output went.into.written fed.goes_on;
       flows =
           subst (λ q. Goes ms (then_told fed.came went.read) (fresh ms) nothing_yet (parts b) q) (sym (then_assoc fed.went went.went (lying b)))
           (goes_then ms fed.came went.read (fresh ms) nothing_yet (parts a) (then_told fed.went (lying a)) (parts b) (then_told fed.went (then_told went.went (lying b))) fed.flows

@@ -20,7 +20,7 @@ use Rattle.ws_runner.proofs.Since.{AfterEvent}
 
 -- what lies before the place that link k leads to, where this comes behind what lies on it
 abbrev pub lies_to : Told (List ℕ) → Node → ℕ → Told (List ℕ)
-lies_to t n k = lying_by n.stopped (then_told (in_bytes (behind_at k n.realm.slots)) t)
+lies_to t n k = lying_by n.core.stopped (then_told (in_bytes (behind_at k n.core.realm.slots)) t)
 
 heard_short : (h x y : Told Value) (t : Told (List ℕ)) → IsShortOf (then_told h x) y → IsShortOf (then_told (in_bytes h) (then_told (in_bytes x) t)) (then_told (in_bytes y) t)
 heard_short h x y t s =
@@ -38,14 +38,14 @@ one-heard n v x y h o = by v (one-short n (then_told (told (v ∷ []) Open) x) y
   by (Bytes piece) (e, h, k) = (e, (refl, h, k))
   by (PlainValue w) o = absurd o
 
-module _ (shape : Shape) (past : List Entry) (a : Node) (realm : SeenRealm) (e : Event) (after : AfterEvent shape past a realm e) (goes : a.stopped ≡ None) where
+module _ (shape : Shape) (past : List Entry) (a : Node) (realm : SeenRealm) (e : Event) (after : AfterEvent shape past a realm e) (goes : a.core.stopped ≡ None) where
   -- what is heard lay first
   pub heard-lies : (t : Told (List ℕ)) (k : ℕ) → k ≤ count_in shape
       → IsShortOf (then_told (in_bytes (hears_in shape k e)) (lies_to t (with_realm realm a) k)) (lies_to t a k)
   heard-lies t k less =
       subst (λ (why : Option Why). IsShortOf (then_told (in_bytes (hears_in shape k e)) (lying_by why (then_told (in_bytes (behind_at k realm.slots)) t)))
-      (lying_by why (then_told (in_bytes (behind_at k a.realm.slots)) t))) (sym goes)
-      (heard_short (hears_in shape k e) (behind_at k realm.slots) (behind_at k a.realm.slots) t (after.short k less))
+      (lying_by why (then_told (in_bytes (behind_at k a.core.realm.slots)) t))) (sym goes)
+      (heard_short (hears_in shape k e) (behind_at k realm.slots) (behind_at k a.core.realm.slots) t (after.short k less))
 
   -- so what lies there is short of that where nothing of bytes is heard
   pub unheard-lies : (t : Told (List ℕ)) (k : ℕ) → k ≤ count_in shape → in_bytes (hears_in shape k e) ≡ nothing_yet

@@ -14,7 +14,7 @@ use Rattle.ws_runner.proofs.Going.{fed-went}
 pub record Handled (shape : Shape) (a b : Node) (old new : Moment) (p q : List ℕ → Type 0) : Type 0 where
   pub past : List Entry
   pub led : Led shape past b
-  pub pushes : b.stopped ≡ None → ArePushed b.realm.slots.age b.stages.items
+  pub pushes : b.core.stopped ≡ None → ArePushed b.core.realm.slots.age b.core.stages.items
   pub one : HasOne b
   pub went : Went a b old new p q
 

@@ -54,17 +54,17 @@ among : (P : State → Type 0) (before after : List State) (w : State) → All P
 among P [] after w h = All-head P w after h
 among P (u ∷ before) after w h = among P before after w (All-tail P u (before ++ w ∷ after) h)
 
-module _ (shape : Shape) (past : List Entry) (a : Node) (realm : SeenRealm) (since : Since shape past a) (goes : a.stopped ≡ None) (id : HostId) where
+module _ (shape : Shape) (past : List Entry) (a : Node) (realm : SeenRealm) (since : Since shape past a) (goes : a.core.stopped ≡ None) (id : HostId) where
   -- the one chunk on the first link is that which was counted
   one-counted : (call : HostCall) (piece : List ℕ) → AfterEvent shape past a realm (Host id call) → hears_in shape 0 (Host id call) ≡ told (Bytes piece ∷ []) Open
-      → may_have a.stages.items a.output a.abort ≡ true → length piece ≤ a.ahead
+      → may_have a.core.stages.items a.exit.output a.exit.abort ≡ true → length piece ≤ a.entrance.ahead
   one-counted call piece event is may =
-      let o = one-heard a.ahead (Bytes piece) (behind_at 0 realm.slots) (behind_at 0 a.realm.slots)
-      (subst (λ (t : Told Value). IsShortOf (then_told t (behind_at 0 realm.slots)) (behind_at 0 a.realm.slots)) is (event.short 0 (omega arith))) (since.one may) in
+      let o = one-heard a.entrance.ahead (Bytes piece) (behind_at 0 realm.slots) (behind_at 0 a.core.realm.slots)
+      (subst (λ (t : Told Value). IsShortOf (then_told t (behind_at 0 realm.slots)) (behind_at 0 a.core.realm.slots)) is (event.short 0 (omega arith))) (since.one may) in
       let same = o.1.1 in
       omega arith
 
-  heard-stage : (i : StreamId) (before after : List State) (w : State) (v : Value) → IsAt i a.stages.items before w after
+  heard-stage : (i : StreamId) (before after : List State) (w : State) (v : Value) → IsAt i a.core.stages.items before w after
       → hears_in shape (length before) (Host id (Transform i v)) ≡ told (v ∷ []) Open
   heard-stage i before after w v at =
       let e = count-is shape a before after w goes since.led.is_of.stages at.whole in
@@ -73,7 +73,7 @@ module _ (shape : Shape) (past : List Entry) (a : Node) (realm : SeenRealm) (sin
       ((each_event_is_heard_at_one_link shape.origin shape.target (count_in shape) j (omega arith)).transform id j v (omega arith) ∙ at-there j (told (v ∷ []) Open))
 
   -- a chunk that comes to a stage which may be asked is below 2^25 bytes
-  stage-short : (i : StreamId) (piece : List ℕ) (before after : List State) (w : State) → IsAt i a.stages.items before w after → IsLive w.work
+  stage-short : (i : StreamId) (piece : List ℕ) (before after : List State) (w : State) → IsAt i a.core.stages.items before w after → IsLive w.work
       → AfterEvent shape past a realm (Host id (Transform i (Bytes piece))) → length piece < 33554432
   stage-short i piece before after w at live event =
       let j = length before in
@@ -96,9 +96,9 @@ module _ (shape : Shape) (past : List Entry) (a : Node) (realm : SeenRealm) (sin
   may-answer-it call event = record {
     written = λ piece is opened near none.
         let n = count_in shape in
-        let w : HostCall = Write a.sink (Bytes piece) in
+        let w : HostCall = Write a.exit.sink (Bytes piece) in
         let zero_is : n ≡ 0 = sym (count-works shape past a realm since goes)
-        ∙ (let f : length (works_in a) ≡ length a.stages.items = length-map a.stages.items (λ (u : State). u.work) in let g : length a.stages.items ≡ 0 = ap length none in omega arith) in
+        ∙ (let f : length (works_in a.core) ≡ length a.core.stages.items = length-map a.core.stages.items (λ (u : State). u.work) in let g : length a.core.stages.items ≡ 0 = ap length none in omega arith) in
         let heard : hears_in shape 0 (Host id w) ≡ told (Bytes piece ∷ []) Open =
         subst (λ (s : StreamId). hears_in shape 0 (Host id (Write s (Bytes piece))) ≡ only_at n (told (Bytes piece ∷ []) Open) 0) (sym since.led.is_of.sink)
         ((each_event_is_heard_at_one_link shape.origin shape.target n 0 (omega arith)).write id (Bytes piece)
@@ -107,9 +107,9 @@ module _ (shape : Shape) (past : List Entry) (a : Node) (realm : SeenRealm) (sin
         one-counted w piece (subst (λ (c : HostCall). AfterEvent shape past a realm (Host id c)) is event) heard (rw (none, opened, near) refl);
     had = λ i piece is after w at live.
         one-counted (Transform i (Bytes piece)) piece (subst (λ (c : HostCall). AfterEvent shape past a realm (Host id c)) is event) (heard-stage i [] after w (Bytes piece) at)
-        (subst (λ (ws : List State). may_have ws a.output a.abort ≡ true) (sym at.whole) (live-true w live));
+        (subst (λ (ws : List State). may_have ws a.exit.output a.exit.abort ≡ true) (sym at.whole) (live-true w live));
     pushed = λ i piece is before after w at live.
-        let some = among (λ u. u.pushes < a.realm.slots.age) before after w (subst (All (λ u. u.pushes < a.realm.slots.age)) at.whole (since.pushes goes)) in
+        let some = among (λ u. u.pushes < a.core.realm.slots.age) before after w (subst (All (λ u. u.pushes < a.core.realm.slots.age)) at.whole (since.pushes goes)) in
         let old = since.led.age in
         record {
           count = omega arith;
@@ -118,8 +118,8 @@ module _ (shape : Shape) (past : List Entry) (a : Node) (realm : SeenRealm) (sin
   }
 
 -- what it asks can be done
-pub may-hear : (shape : Shape) (past : List Entry) (a : Node) (realm : SeenRealm) (e : Event) → Since shape past a → a.stopped ≡ None → first_event a.realm.slots.promises.events ≡ Some e
-    → realm.slots ≡ after_event a.realm.slots → MayHear (with_realm realm a) e
+pub may-hear : (shape : Shape) (past : List Entry) (a : Node) (realm : SeenRealm) (e : Event) → Since shape past a → a.core.stopped ≡ None → first_event a.core.realm.slots.promises.events ≡ Some e
+    → realm.slots ≡ after_event a.core.realm.slots → MayHear (with_realm realm a) e
 may-hear shape past a realm e since goes first slots id call is =
     may-answer-it shape past a realm since goes id call (subst (λ (x : Event). AfterEvent shape past a realm x) is (since-hears shape past a realm e since.led goes first slots))
 
@@ -161,7 +161,7 @@ module _ (shape : Shape) (k : ℕ) (id : HostId) (i : StreamId) (other : is_same
   no-close = rw ear-other refl
 
 module _ (rf : ℕ) (feed : Option Feed) (p q : List ℕ → Type 0) (shape : Shape) (past : List Entry) (a : Node) (realm : SeenRealm) (b : Node) (old new : Shown) (since : Since shape past a)
-    (goes : a.stopped ≡ None) where
+    (goes : a.core.stopped ≡ None) where
   abbrev was : Node
   was = with_realm realm a
 
@@ -169,7 +169,7 @@ module _ (rf : ℕ) (feed : Option Feed) (p q : List ℕ → Type 0) (shape : Sh
   Done = Handled shape a b (shows rf feed old) (shows rf feed new) p q
 
   one-was : (e : Event) → AfterEvent shape past a realm e → hears_in shape 0 e ≡ silence → HasOne was
-  one-was e event quiet h = one-quiet a.ahead (hears_in shape 0 e) (behind_at 0 realm.slots) (behind_at 0 a.realm.slots) quiet (event.short 0 (omega arith)) (since.one h)
+  one-was e event quiet h = one-quiet a.entrance.ahead (hears_in shape 0 e) (behind_at 0 realm.slots) (behind_at 0 a.core.realm.slots) quiet (event.short 0 (omega arith)) (since.one h)
 
   -- of the node it tells nothing
   told-only : (id : HostId) (e : Event) → AfterEvent shape past a realm e → ((k : ℕ) → k ≤ count_in shape → hears_in shape k e ≡ silence) → b ≡ was → Untouched old new p q → Done
@@ -177,11 +177,11 @@ module _ (rf : ℕ) (feed : Option Feed) (p q : List ℕ → Type 0) (shape : Sh
       noted rf feed p q shape past a realm id b old new since goes e event (λ k less. ap in_bytes (quiet k less)) (one-was e event (quiet 0 (omega arith))) same untouched
 
   module _ (id : HostId) (call : HostCall) (event : AfterEvent shape past a realm (Host id call)) where
-    at-once : ((k : ℕ) → k ≤ count_in shape → hears_in shape k (Host id call) ≡ silence) → (call ≡ Close a.sink → ⊥) → ((s : StreamId) → call ≡ Flush s → ⊥) → Settles id was b old new p q → Done
+    at-once : ((k : ℕ) → k ≤ count_in shape → hears_in shape k (Host id call) ≡ silence) → (call ≡ Close a.exit.sink → ⊥) → ((s : StreamId) → call ≡ Flush s → ⊥) → Settles id was b old new p q → Done
     at-once quiet other flush h =
         settled rf feed p q shape past a realm id b old new since goes (Host id call) event (λ k less. ap in_bytes (quiet k less)) (one-was (Host id call) event (quiet 0 (omega arith))) call refl other flush h
 
-    pull-waits : (i : StreamId) → call ≡ Pull i → ((k : ℕ) → k ≤ count_in shape → hears_in shape k (Host id call) ≡ silence) → b ≡ record was { asked = Some id } → Untouched old new p q → Done
+    pull-waits : (i : StreamId) → call ≡ Pull i → ((k : ℕ) → k ≤ count_in shape → hears_in shape k (Host id call) ≡ silence) → b ≡ record was { entrance = record was.entrance { asked = Some id } } → Untouched old new p q → Done
     pull-waits i is quiet same untouched =
         pulled rf feed p q shape past a realm id b old new since goes (Host id call) event (λ k less. ap in_bytes (quiet k less)) (one-was (Host id call) event (quiet 0 (omega arith))) i
         (ap (λ (c : HostCall). let e : Event = Host id c in e) is) same untouched
@@ -191,38 +191,38 @@ module _ (rf : ℕ) (feed : Option Feed) (p q : List ℕ → Type 0) (shape : Sh
     plain-written : AfterEvent shape past a realm (Host id (Write i (PlainValue v))) → Settles id was b old new p q → Done
     plain-written event h =
         settled rf feed p q shape past a realm id b old new since goes (Host id (Write i (PlainValue v))) event (λ k less. plain-bytes v (is_sink (ear_of shape.origin shape.target (count_in shape) k) i))
-        (λ o. plain-one a.ahead v (is_sink (ear_of shape.origin shape.target (count_in shape) 0) i) (behind_at 0 realm.slots) (behind_at 0 a.realm.slots) (event.short 0 (omega arith)) (since.one o))
+        (λ o. plain-one a.entrance.ahead v (is_sink (ear_of shape.origin shape.target (count_in shape) 0) i) (behind_at 0 realm.slots) (behind_at 0 a.core.realm.slots) (event.short 0 (omega arith)) (since.one o))
         (Write i (PlainValue v)) refl (λ f. cc) (λ s f. cc) h
 
     plain-transformed : AfterEvent shape past a realm (Host id (Transform i (PlainValue v))) → Settles id was b old new p q → Done
     plain-transformed event h =
         settled rf feed p q shape past a realm id b old new since goes (Host id (Transform i (PlainValue v))) event (λ k less. plain-bytes v (is_half (ear_of shape.origin shape.target (count_in shape) k) i))
-        (λ o. plain-one a.ahead v (is_half (ear_of shape.origin shape.target (count_in shape) 0) i) (behind_at 0 realm.slots) (behind_at 0 a.realm.slots) (event.short 0 (omega arith)) (since.one o))
+        (λ o. plain-one a.entrance.ahead v (is_half (ear_of shape.origin shape.target (count_in shape) 0) i) (behind_at 0 realm.slots) (behind_at 0 a.core.realm.slots) (event.short 0 (omega arith)) (since.one o))
         (Transform i (PlainValue v)) refl (λ f. cc) (λ s f. cc) h
 
-  other-sink : (i : StreamId) → is_same a.sink i ≡ false → is_same (dest_of (count_in shape)) i ≡ false
+  other-sink : (i : StreamId) → is_same a.exit.sink i ≡ false → is_same (dest_of (count_in shape)) i ≡ false
   other-sink i e = subst (λ (s : StreamId). is_same s i ≡ false) since.led.is_of.sink e
 
-  written-by : (id : HostId) (i : StreamId) (v : Value) (t : Bool) → is_same a.sink i ≡ t → AfterEvent shape past a realm (Host id (Write i v)) → writes_by id v was b old new p q t → Done
+  written-by : (id : HostId) (i : StreamId) (v : Value) (t : Bool) → is_same a.exit.sink i ≡ t → AfterEvent shape past a realm (Host id (Write i v)) → writes_by id v was b old new p q t → Done
   written-by id i (Bytes piece) true e event w =
-      wrote rf feed p q shape past a realm id b old new since goes (count_in shape) refl piece (subst (λ (s : StreamId). AfterEvent shape past a realm (Host id (Write s (Bytes piece)))) (the-sink a.sink i e) event) w
+      wrote rf feed p q shape past a realm id b old new since goes (count_in shape) refl piece (subst (λ (s : StreamId). AfterEvent shape past a realm (Host id (Write s (Bytes piece)))) (the-sink a.exit.sink i e) event) w
   written-by id i (Bytes piece) false e event w =
       at-once id (Write i (Bytes piece)) event (λ k less. no-write shape k id i (other-sink i e) (Bytes piece)) (λ f. cc) (λ s f. cc) w
   written-by id i (PlainValue v) true e event w = plain-written id i v event w
   written-by id i (PlainValue v) false e event w = plain-written id i v event w
 
-  closed-by : (id : HostId) (i : StreamId) (t : Bool) → is_same a.sink i ≡ t → AfterEvent shape past a realm (Host id (Close i)) → finishes_by id was b old new p q t → Done
+  closed-by : (id : HostId) (i : StreamId) (t : Bool) → is_same a.exit.sink i ≡ t → AfterEvent shape past a realm (Host id (Close i)) → finishes_by id was b old new p q t → Done
   closed-by id i true e event f =
-      closed rf feed p q shape past a realm id b old new since goes (count_in shape) refl (subst (λ (s : StreamId). AfterEvent shape past a realm (Host id (Close s))) (the-sink a.sink i e) event) f
+      closed rf feed p q shape past a realm id b old new since goes (count_in shape) refl (subst (λ (s : StreamId). AfterEvent shape past a realm (Host id (Close s))) (the-sink a.exit.sink i e) event) f
   closed-by id i false e event f =
-      at-once id (Close i) event (λ k less. no-close shape k id i (other-sink i e)) (not-the-sink a.sink i e) (λ s g. cc) f
+      at-once id (Close i) event (λ k less. no-close shape k id i (other-sink i e)) (not-the-sink a.exit.sink i e) (λ s g. cc) f
 
   answered : (id : HostId) (call : HostCall) → AfterEvent shape past a realm (Host id call) → Answers id call was b old new p q → Done
   answered id (Start i) event h = at-once id (Start i) event (λ k less. refl) (λ f. cc) (λ s f. cc) h
   answered id (Pull i) event h = pull-waits id (Pull i) event i refl (λ k less. refl) h.0 h.1
   answered id (Cancel i r) event h = at-once id (Cancel i r) event (λ k less. refl) (λ f. cc) (λ s f. cc) h
-  answered id (Write i v) event h = written-by id i v (is_same a.sink i) refl event h
-  answered id (Close i) event h = closed-by id i (is_same a.sink i) refl event h
+  answered id (Write i v) event h = written-by id i v (is_same a.exit.sink i) refl event h
+  answered id (Close i) event h = closed-by id i (is_same a.exit.sink i) refl event h
   answered id (Abort i r) event h = at-once id (Abort i r) event (λ k less. refl) (λ f. cc) (λ s f. cc) h
   answered id (Transform i (Bytes piece)) event h = rw h.1.shown (transforms shape past a realm id i b (shows rf feed old) p q h.1.gained since goes piece event h.0)
   answered id (Transform i (PlainValue v)) event h = plain-transformed id i v event h
@@ -237,7 +237,7 @@ module _ (rf : ℕ) (feed : Option Feed) (p q : List ℕ → Type 0) (shape : Sh
       (subst (λ (t : Target). is_port (last_ear shape.origin t (dest_of (count_in shape))) c ≡ false) (sym since.led.is_of.into) refl)) h.0 h.1
 
 pub hears : (rf : ℕ) (feed : Option Feed) (p q : List ℕ → Type 0) (shape : Shape) (past : List Entry) (a : Node) (realm : SeenRealm) (e : Event) (b : Node) (old new : Shown)
-    → Since shape past a → a.stopped ≡ None → first_event a.realm.slots.promises.events ≡ Some e → realm.slots ≡ after_event a.realm.slots
+    → Since shape past a → a.core.stopped ≡ None → first_event a.core.realm.slots.promises.events ≡ Some e → realm.slots ≡ after_event a.core.realm.slots
     → Hears e (with_realm realm a) b old new p q → Handled shape a b (shows rf feed old) (shows rf feed new) p q
 hears rf feed p q shape past a realm e b old new since goes first slots h =
     heard-of rf feed p q shape past a realm b old new since goes e (since-hears shape past a realm e since.led goes first slots) h
@@ -248,15 +248,15 @@ stopped-same : (stopped : Option Why) (x y t : Told (List ℕ)) → IsShortOf x 
 stopped-same None x y t h = short_right x y t h
 stopped-same (Some why) x y t h = ([], refl)
 
-pub hears-none : (shape : Shape) (past : List Entry) (a : Node) (realm : SeenRealm) (m : Moment) (p : List ℕ → Type 0) → Since shape past a → a.stopped ≡ None
-    → first_event a.realm.slots.promises.events ≡ None → realm.slots ≡ after_event a.realm.slots → Handled shape a (with_realm realm a) m m p p
+pub hears-none : (shape : Shape) (past : List Entry) (a : Node) (realm : SeenRealm) (m : Moment) (p : List ℕ → Type 0) → Since shape past a → a.core.stopped ≡ None
+    → first_event a.core.realm.slots.promises.events ≡ None → realm.slots ≡ after_event a.core.realm.slots → Handled shape a (with_realm realm a) m m p p
 hears-none shape past a realm m p since goes first slots =
     let after = since-hears-none shape past a realm since.led first slots in
     record {
       past = past ++ Heard ∷ [];
       led = after.led;
-      pushes = λ h. subst (λ (n : ℕ). ArePushed n a.stages.items) (sym after.age) (since.pushes h);
-      one = λ h. one-short a.ahead (behind_at 0 realm.slots) (behind_at 0 a.realm.slots) (after.short 0 (omega arith)) (since.one h);
-      went = went-rests shape a (with_realm realm a) m p p (Gains-nothing p) (going-stays a (with_realm realm a) goes) since.led.is_of.stages (record { realm = realm; stopped = a.stopped; is = refl })
-          (λ k less. stopped-same a.stopped (in_bytes (behind_at k realm.slots)) (in_bytes (behind_at k a.realm.slots)) (coming a k) (in_bytes-short _ _ (after.short k less)));
+      pushes = λ h. subst (λ (n : ℕ). ArePushed n a.core.stages.items) (sym after.age) (since.pushes h);
+      one = λ h. one-short a.entrance.ahead (behind_at 0 realm.slots) (behind_at 0 a.core.realm.slots) (after.short 0 (omega arith)) (since.one h);
+      went = went-rests shape a (with_realm realm a) m p p (Gains-nothing p) (going-stays a (with_realm realm a) goes) since.led.is_of.stages (record { realm = realm; stopped = a.core.stopped; is = refl })
+          (λ k less. stopped-same a.core.stopped (in_bytes (behind_at k realm.slots)) (in_bytes (behind_at k a.core.realm.slots)) (coming a k) (in_bytes-short _ _ (after.short k less)));
     }

@@ -32,16 +32,16 @@ live-true w live = by w.work live where
 
 -- what is behind the host on the first link while a stage that isn't the first is asked
 
-pub one-behind : (u : State) (us vs : List State) (a b : Node) → HasOne a → a.stages.items ≡ u ∷ us → b.stages.items ≡ u ∷ vs → b.ahead ≡ a.ahead
-    → ((q : ℕ) → OneAtMost q (behind_at 0 a.realm.slots).items → OneAtMost q (behind_at 0 b.realm.slots).items) → HasOne b
+pub one-behind : (u : State) (us vs : List State) (a b : Node) → HasOne a → a.core.stages.items ≡ u ∷ us → b.core.stages.items ≡ u ∷ vs → b.entrance.ahead ≡ a.entrance.ahead
+    → ((q : ℕ) → OneAtMost q (behind_at 0 a.core.realm.slots).items → OneAtMost q (behind_at 0 b.core.realm.slots).items) → HasOne b
 one-behind u us vs a b one was is ahead less h =
-    let live : is_live u.work ≡ true = subst (λ (s : List State). may_have s b.output b.abort ≡ true) is h in
-    subst (λ (q : ℕ). OneAtMost q (behind_at 0 b.realm.slots).items) (sym ahead)
-    (less a.ahead (one (subst (λ (s : List State). may_have s a.output a.abort ≡ true) (sym was) live)))
+    let live : is_live u.work ≡ true = subst (λ (s : List State). may_have s b.exit.output b.exit.abort ≡ true) is h in
+    subst (λ (q : ℕ). OneAtMost q (behind_at 0 b.core.realm.slots).items) (sym ahead)
+    (less a.entrance.ahead (one (subst (λ (s : List State). may_have s a.exit.output a.exit.abort ≡ true) (sym was) live)))
 
 -- where the first stage is over, nothing is said of it
-pub one-over : (v : State) (vs : List State) (b : Node) → b.stages.items ≡ v ∷ vs → (IsLive v.work → ⊥) → HasOne b
-one-over v vs b is over h = absurd (over (by v.work (subst (λ (s : List State). may_have s b.output b.abort ≡ true) is h))) where
+pub one-over : (v : State) (vs : List State) (b : Node) → b.core.stages.items ≡ v ∷ vs → (IsLive v.work → ⊥) → HasOne b
+one-over v vs b is over h = absurd (over (by v.work (subst (λ (s : List State). may_have s b.exit.output b.exit.abort ≡ true) is h))) where
   by : (x : _) → is_live x ≡ true → IsLive x
   by (Live k) l = tt
   by (Over e) l = absurd (cc)

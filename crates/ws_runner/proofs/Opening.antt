@@ -207,11 +207,11 @@ module _ (plan : Plan) (n : Node) (is_accepted : IsAccepted plan) (f : IsFresh p
   begins : BeginsChain FromBytes ToSink k signalled
   begins = each_chain_begins FromBytes ToSink k signalled few
 
-  slots-are : n.realm.slots ≡ chained FromBytes ToSink k signalled
+  slots-are : n.core.realm.slots ≡ chained FromBytes ToSink k signalled
   slots-are = f.slots ∙ (each_chain_ends FromBytes ToSink k signalled [] few).slots
 
   -- the promise of the last pipe
-  its : last_promise FromBytes ToSink k signalled ≡ n.pipe
+  its : last_promise FromBytes ToSink k signalled ≡ n.core.pipe
   its = let a = f.answered in let b = begins.last in cc
 
   -- what comes through a transform stream behind the opening
@@ -222,7 +222,7 @@ module _ (plan : Plan) (n : Node) (is_accepted : IsAccepted plan) (f : IsFresh p
       (last-none (through (opening FromBytes ToSink k signalled) empty) (through (pipe ∷ xs) (opened FromBytes ToSink k signalled))
       (sym (through-append (opening FromBytes ToSink k signalled) (pipe ∷ xs) empty) ∙ e))
 
-  pipe-ends : (xs : List Entry) → PipeEnds k (past_of FromBytes ToSink k signalled xs) n.pipe
+  pipe-ends : (xs : List Entry) → PipeEnds k (past_of FromBytes ToSink k signalled xs) n.core.pipe
   pipe-ends xs =
       let entries : List Entry = past_of FromBytes ToSink k signalled xs in
       let e = each_chain_ends FromBytes ToSink k signalled xs few in
@@ -235,11 +235,11 @@ module _ (plan : Plan) (n : Node) (is_accepted : IsAccepted plan) (f : IsFresh p
         fulfilled = λ v o. e.fulfilled v refl (subst (λ (q : PromiseId). outcome_at (run entries empty).promises q ≡ Some (Fulfilled v)) (sym its) o);
       }
 
-  piped : IsPiped k (opening_by plan) n.pipe
+  piped : IsPiped k (opening_by plan) n.core.pipe
   piped xs =
-      subst (λ (es : List Entry). PipeEnds k es n.pipe) (sym (append_assoc (opening FromBytes ToSink k signalled) (Called (piping (signal_of signalled) k) ∷ []) xs)) (pipe-ends xs)
+      subst (λ (es : List Entry). PipeEnds k es n.core.pipe) (sym (append_assoc (opening FromBytes ToSink k signalled) (Called (piping (signal_of signalled) k) ∷ []) xs)) (pipe-ends xs)
 
-  ran : HasRun (shape_of plan) (opening_by plan) n.realm.slots
+  ran : HasRun (shape_of plan) (opening_by plan) n.core.realm.slots
   ran = record {
     opened = record { since = []; is = refl; own = All-nil (IsOwnEntry k) };
     slots = f.slots;
@@ -249,15 +249,15 @@ module _ (plan : Plan) (n : Node) (is_accepted : IsAccepted plan) (f : IsFresh p
     portless = subst (λ (s : Slots). s.ports ≡ []) (sym f.slots) (past-portless FromBytes ToSink k signalled [] refl tt);
   }
 
-  nothing-behind : (j : ℕ) → j ≤ k → behind_at j n.realm.slots ≡ silence
+  nothing-behind : (j : ℕ) → j ≤ k → behind_at j n.core.realm.slots ≡ silence
   nothing-behind j l = ap (behind_at j) slots-are ∙ begins.none j l
 
   nothing-lies : (j : ℕ) → j ≤ k → lies_in n j ≡ nothing_yet
   nothing-lies j l =
-      ap (λ (w : Option Why). lying_by w (then_told (in_bytes (behind_at j n.realm.slots)) (coming n j))) f.stopped
+      ap (λ (w : Option Why). lying_by w (then_told (in_bytes (behind_at j n.core.realm.slots)) (coming n j))) f.stopped
       ∙ (ap (λ (t : Told Value). then_told (in_bytes t) (coming n j)) (nothing-behind j l)
       ∙ ap (λ (t : Told (List ℕ)). then_told nothing_yet t)
-      (ap (λ (i : Input). coming_by i n.stages.items j) f.input ∙ (ap (λ (ws : List State). coming_by input.Open ws j) f.stages ∙ coming-none ss j)))
+      (ap (λ (i : Input). coming_by i n.core.stages.items j) f.input ∙ (ap (λ (ws : List State). coming_by input.Open ws j) f.stages ∙ coming-none ss j)))
 
   parts-fresh : parts n ≡ fresh (machines ss)
   parts-fresh =
@@ -266,8 +266,8 @@ module _ (plan : Plan) (n : Node) (is_accepted : IsAccepted plan) (f : IsFresh p
 
   lying-none : lying n ≡ nothing_yet
   lying-none =
-      behind_last 0 (works_in n) (lies_in n)
-      ∙ nothing-lies (0 + length (works_in n))
+      behind_last 0 (works_in n.core) (lies_in n)
+      ∙ nothing-lies (0 + length (works_in n.core))
       (let e = ap (λ (ws : List State). length (map (λ (w : State). w.work) ws)) f.stages ∙ works_begun ss in omega arith)
 
   is-of : IsOf plan n
@@ -280,10 +280,10 @@ module _ (plan : Plan) (n : Node) (is_accepted : IsAccepted plan) (f : IsFresh p
     signal = ap (λ (x : Option Abort). option_map (λ (a : Abort). a.signal) x) f.abort ∙ signal-is plan.abort_after;
   }
 
-  its-age : IsYoung k n.realm.slots.age
+  its-age : IsYoung k n.core.realm.slots.age
   its-age = subst (λ (s : Slots). IsYoung k s.age) (sym f.slots) (young k signalled)
 
-  young-enough : n.realm.slots.age ≤ oldest
+  young-enough : n.core.realm.slots.age ≤ oldest
   young-enough = let few₁ = its-age.few in let small = (accepted plan is_accepted).stages in omega arith
 
   limited : nat_abs plan.max_input ≤ 1099511627776
@@ -294,7 +294,7 @@ module _ (plan : Plan) (n : Node) (is_accepted : IsAccepted plan) (f : IsFresh p
       let c = and_parts (is_within 0 1099511627776 plan.max_input) (list_all (is_placed_within plan.workers) plan.stages.items) b.1 in
       limit-of plan.max_input c.0
 
-  counts : Counts n.most n.taken n.ahead n.input
+  counts : Counts n.entrance.most n.entrance.taken n.entrance.ahead n.entrance.input
   counts =
       let most = f.most in
       let small = limited in
@@ -347,8 +347,8 @@ module _ (plan : Plan) (n : Node) (is_accepted : IsAccepted plan) (f : IsFresh p
     past = opening_by plan;
     since = record {
       led = led;
-      pushes = λ e. subst (ArePushed n.realm.slots.age) (sym f.stages) (never-pushed n.realm.slots.age ss its-age.some);
-      one = λ o. subst (λ (x : Told Value). OneAtMost n.ahead x.items) (sym (nothing-behind 0 (omega arith))) tt;
+      pushes = λ e. subst (ArePushed n.core.realm.slots.age) (sym f.stages) (never-pushed n.core.realm.slots.age ss its-age.some);
+      one = λ o. subst (λ (x : Told Value). OneAtMost n.entrance.ahead x.items) (sym (nothing-behind 0 (omega arith))) tt;
       fed = fed;
     };
   }

@@ -17,6 +17,7 @@ use Rattle.ws_stages.specs.Answers.{Answers as StageAnswers, Flushed}
 use Rattle.ws_stages.specs.State.{State, IsLive, is_live, kept_in}
 use Rattle.ws_flow.specs.Parts.{AtWork, Live, Over}
 use Rattle.ws_chain_laws.specs.Chain.{source_of}
+use Rattle.ws_runner.specs.declared.node.Entrance.{Entrance}
 use Rattle.ws_runner.specs.declared.node.Node.{Node}
 use Rattle.ws_runner.specs.Moves.{IsAt, NoneThere, HasStages, had_behind, PutsOut, Transforms, PushedOne, NoRoomToPush, Flushes, FlushedOne, NoRoomToFlush}
 
@@ -58,7 +59,7 @@ none-numbered i stages h = λ before after w at. h (length before) at.place
 
 -- the first stage has no other before it
 
-pub had-first : (stages : List State) (n count : ℕ) (a : Node) → n ≡ 0 → had_behind (take n stages) count a ≡ record a { ahead = a.ahead - count }
+pub had-first : (stages : List State) (n count : ℕ) (a : Node) → n ≡ 0 → had_behind (take n stages) count a ≡ record a { entrance = record a.entrance { ahead = a.entrance.ahead - count } }
 had-first stages n count a e = ap (λ (k : ℕ). had_behind (take k stages) count a) e
 
 pub had-later : (stages : List State) (n count : ℕ) (w : State) (a : Node) → (n ≡ 0 → ⊥) → slice_get stages n ≡ Some w → had_behind (take n stages) count a ≡ a
@@ -93,42 +94,42 @@ same-vec v i w e =
     (λ l. ap (λ (q : v.len ≡ length v.items). record { ptr = v.ptr; len = v.len; cap = v.cap; alloc = v.alloc; items = v.items; ok = (q, v.ok.1); small = v.small }) (ℕ_set v.len (length v.items) l v.ok.0))
     (v.ok.0 ∙ sym (length-set v.items i w))
 
--- how much a node is ahead, once the stage of this number had so many bytes
-pub data Had (n count before now : ℕ) : Type 0 where
-  FirstHad : n ≡ 0 → now ≡ before - count → Had n count before now
+-- the entrance of a node, once the stage of this number had so many bytes
+pub data Had (n count : ℕ) (before now : Entrance) : Type 0 where
+  FirstHad : n ≡ 0 → now ≡ record before { ahead = before.ahead - count } → Had n count before now
   OtherHad : (n ≡ 0 → ⊥) → now ≡ before → Had n count before now
 
-pub had-is : (stages : List State) (n count k : ℕ) (a : Node) → n < length stages → Had n count a.ahead k → record a { ahead = k } ≡ had_behind (take n stages) count a
-had-is stages n count k a within (FirstHad e f) = ap (λ m. record a { ahead = m }) f ∙ sym (had-first stages n count a e)
-had-is [] n count k a within (OtherHad e f) = absurd (omega arith)
-had-is (x ∷ xs) zero count k a within (OtherHad e f) = absurd (e refl)
-had-is (x ∷ xs) (suc n) count k a within (OtherHad e f) = ap (λ m. record a { ahead = m }) f
+pub had-is : (stages : List State) (n count : ℕ) (a : Node) (now : Entrance) → n < length stages → Had n count a.entrance now → record a { entrance = now } ≡ had_behind (take n stages) count a
+had-is stages n count a now within (FirstHad e f) = ap (λ (x : Entrance). record a { entrance = x }) f ∙ sym (had-first stages n count a e)
+had-is [] n count a now within (OtherHad e f) = absurd (omega arith)
+had-is (x ∷ xs) zero count a now within (OtherHad e f) = absurd (e refl)
+had-is (x ∷ xs) (suc n) count a now within (OtherHad e f) = ap (λ (x : Entrance). record a { entrance = x }) f
 
 -- what became of a stage that was asked
 
-module _ (a : Node) (n : ℕ) (w v : State) (within : n < length a.stages.items) (same : w ≡ get_or a.stages.items n w) where
-  pub has-pushed : (count k : ℕ) → Had n count a.ahead k
-      → HasStages (take n a.stages.items ++ v ∷ drop (suc n) a.stages.items) (had_behind (take n a.stages.items) count a) (record a { stages = with_item a.stages n v; ahead = k })
-  has-pushed count k had =
+module _ (a : Node) (n : ℕ) (w v : State) (within : n < length a.core.stages.items) (same : w ≡ get_or a.core.stages.items n w) where
+  pub has-pushed : (count : ℕ) (now : Entrance) → Had n count a.entrance now
+      → HasStages (take n a.core.stages.items ++ v ∷ drop (suc n) a.core.stages.items) (had_behind (take n a.core.stages.items) count a) (record a { core = record a.core { stages = with_item a.core.stages n v }; entrance = now })
+  has-pushed count now had =
       record {
-        is = ap (λ (m : Node). record m { stages = with_item a.stages n v }) (had-is a.stages.items n count k a within had);
-        items = set-parted a.stages.items n w v (slice_of a.stages.items n w within same);
+        is = ap (λ (m : Node). record m { core = record m.core { stages = with_item a.core.stages n v } }) (had-is a.core.stages.items n count a now within had);
+        items = set-parted a.core.stages.items n w v (slice_of a.core.stages.items n w within same);
       }
 
-  pub has-flushed : HasStages (take n a.stages.items ++ v ∷ drop (suc n) a.stages.items) a (record a { stages = with_item a.stages n v })
-  has-flushed = record { is = refl; items = set-parted a.stages.items n w v (slice_of a.stages.items n w within same) }
+  pub has-flushed : HasStages (take n a.core.stages.items ++ v ∷ drop (suc n) a.core.stages.items) a (record a { core = record a.core { stages = with_item a.core.stages n v } })
+  has-flushed = record { is = refl; items = set-parted a.core.stages.items n w v (slice_of a.core.stages.items n w within same) }
 
 -- one that wasn't stays
-pub unasked : (a : Node) (n : ℕ) (w : State) → w ≡ get_or a.stages.items n w → record a { stages = with_item a.stages n w } ≡ a
-unasked a n w same = ap (λ s. record a { stages = s }) (same-vec a.stages n w (ap (slice_set a.stages.items n) same ∙ set-get_or a.stages.items n w))
+pub unasked : (a : Node) (n : ℕ) (w : State) → w ≡ get_or a.core.stages.items n w → record a { core = record a.core { stages = with_item a.core.stages n w } } ≡ a
+unasked a n w same = ap (λ s. record a { core = record a.core { stages = s } }) (same-vec a.core.stages n w (ap (slice_set a.core.stages.items n) same ∙ set-get_or a.core.stages.items n w))
 
-pub pushed-by : (id : HostId) (i : StreamId) (piece : List ℕ) (a b c : Node) (before after : List State) (w v : State) (r : Result Pushed NoMemory) → IsAt i a.stages.items before w after → IsLive w.work
+pub pushed-by : (id : HostId) (i : StreamId) (piece : List ℕ) (a b c : Node) (before after : List State) (w v : State) (r : Result Pushed NoMemory) → IsAt i a.core.stages.items before w after → IsLive w.work
     → IfOk r (λ p. StageAnswers p v.work ((machine w.stage).push (kept_in w.work) piece)) → OnErr r (v.work ≡ Over Fine) → v.stage ≡ w.stage → OnOk r (v.pushes ≡ w.pushes + 1)
     → HasStages (before ++ v ∷ after) (had_behind before (length piece) a) c → PutsOut id i r c b → Transforms id i piece a b
 pushed-by id i piece a b c before after w v (Ok p) at live answers wanting stage count has puts = PushedOne before after w v p at live answers stage count c has puts
 pushed-by id i piece a b c before after w v (Err e) at live answers wanting stage count has puts = NoRoomToPush before after w v at live stage wanting c has puts
 
-pub flushed-by : (id : HostId) (i : StreamId) (a b c : Node) (before after : List State) (w v : State) (r : Result Pushed NoMemory) → IsAt i a.stages.items before w after → IsLive w.work
+pub flushed-by : (id : HostId) (i : StreamId) (a b c : Node) (before after : List State) (w v : State) (r : Result Pushed NoMemory) → IsAt i a.core.stages.items before w after → IsLive w.work
     → IfOk r (λ p. Flushed p v.work ((machine w.stage).flush (kept_in w.work))) → OnErr r (v.work ≡ Over Fine) → v.stage ≡ w.stage → v.pushes ≡ w.pushes
     → HasStages (before ++ v ∷ after) a c → PutsOut id i r c b → Flushes id i a b
 flushed-by id i a b c before after w v (Ok p) at live answers wanting stage count has puts = FlushedOne before after w v p at live answers stage count c has puts

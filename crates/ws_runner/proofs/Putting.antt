@@ -24,15 +24,15 @@ use Rattle.ws_runner.proofs.Handing.{lies_to}
 use Rattle.ws_runner.proofs.Unheard.{alike, unlike}
 
 pub only-then : (a b c : Node) → OnlyRealm a b → OnlyRealm b c → OnlyRealm a c
-only-then a b c f g = record { realm = g.realm; stopped = g.stopped; is = g.is ∙ ap (λ (n : Node). record n { realm = g.realm; stopped = g.stopped }) f.is }
+only-then a b c f g = record { realm = g.realm; stopped = g.stopped; is = g.is ∙ ap (λ (n : Node). record n { core = record n.core { realm = g.realm; stopped = g.stopped } }) f.is }
 
 pub only-refl : (a : Node) → OnlyRealm a a
-only-refl a = record { realm = a.realm; stopped = a.stopped; is = refl }
+only-refl a = record { realm = a.core.realm; stopped = a.core.stopped; is = refl }
 
 -- a realm that goes on after a call went on before
-pub asked-before : (c : Call) (a b : Node) → Asks c a b → b.stopped ≡ None → a.stopped ≡ None
+pub asked-before : (c : Call) (a b : Node) → Asks c a b → b.core.stopped ≡ None → a.core.stopped ≡ None
 asked-before c a b (Performed realm slots young goes is) e = goes
-asked-before c a b (Refused why stops is) e = absurd (let f : Some why ≡ None = sym (ap (λ (n : Node). n.stopped) is) ∙ e in cc)
+asked-before c a b (Refused why stops is) e = absurd (let f : Some why ≡ None = sym (ap (λ (n : Node). n.core.stopped) is) ∙ e in cc)
 
 -- a call that brings nothing, as a settling
 
@@ -41,9 +41,9 @@ pub record AfterQuiet (shape : Shape) (past : List Entry) (a b : Node) : Type 0 
   pub led : Led shape (past ++ more) b
   pub only : OnlyRealm a b
   pub lies : (t : Told (List ℕ)) (k : ℕ) → k ≤ count_in shape → IsShortOf (lies_to t b k) (lies_to t a k)
-  pub one : (m : ℕ) → OneAtMost m (behind_at 0 a.realm.slots).items → OneAtMost m (behind_at 0 b.realm.slots).items
-  pub before : b.stopped ≡ None → a.stopped ≡ None
-  pub older : b.stopped ≡ None → a.realm.slots.age < b.realm.slots.age
+  pub one : (m : ℕ) → OneAtMost m (behind_at 0 a.core.realm.slots).items → OneAtMost m (behind_at 0 b.core.realm.slots).items
+  pub before : b.core.stopped ≡ None → a.core.stopped ≡ None
+  pub older : b.core.stopped ≡ None → a.core.realm.slots.age < b.core.realm.slots.age
 
 pub asks-quietly : (shape : Shape) (past : List Entry) (a b : Node) (c : Call) → ((k : ℕ) → enters_in shape k c ≡ silence) → Led shape past a → MayAsk shape past a c → Asks c a b → AfterQuiet shape past a b
 asks-quietly shape past a b c quiet led may asks =
@@ -54,8 +54,8 @@ asks-quietly shape past a b c quiet led may asks =
       only = after.only;
       lies = λ t k less. subst (λ (q : Told Value). IsShortOf (lies_to t b k) (lies_to (then_told (in_bytes q) t) a k)) (quiet k) (after.short (λ j. t) k less);
       one = λ m o. after.one m
-          (subst (λ (q : Told Value). OneAtMost m (then_told (behind_at 0 a.realm.slots) q).items) (sym (quiet 0))
-          (subst (λ (q : Told Value). OneAtMost m q.items) (sym (then_empty (behind_at 0 a.realm.slots))) o));
+          (subst (λ (q : Told Value). OneAtMost m (then_told (behind_at 0 a.core.realm.slots) q).items) (sym (quiet 0))
+          (subst (λ (q : Told Value). OneAtMost m q.items) (sym (then_empty (behind_at 0 a.core.realm.slots))) o));
       before = asked-before c a b asks;
       older = λ e. let f = after.older e in omega arith;
     }
@@ -83,8 +83,8 @@ pub record AfterPuts (shape : Shape) (past : List Entry) (m : ℕ) (chunks : Lis
   pub only : OnlyRealm a b
   pub there : (t : Told (List ℕ)) → IsShortOf (lies_to t b (suc m)) (lies_to (then_told (told chunks Open) t) a (suc m))
   pub elsewhere : (t : Told (List ℕ)) (k : ℕ) → k ≤ count_in shape → k ≢ suc m → IsShortOf (lies_to t b k) (lies_to t a k)
-  pub one : (q : ℕ) → OneAtMost q (behind_at 0 a.realm.slots).items → OneAtMost q (behind_at 0 b.realm.slots).items
-  pub older : b.stopped ≡ None → a.realm.slots.age ≤ b.realm.slots.age
+  pub one : (q : ℕ) → OneAtMost q (behind_at 0 a.core.realm.slots).items → OneAtMost q (behind_at 0 b.core.realm.slots).items
+  pub older : b.core.stopped ≡ None → a.core.realm.slots.age ≤ b.core.realm.slots.age
 
 module _ (shape : Shape) (m : ℕ) (less : suc m ≤ count_in shape) where
   may-enqueue : (past : List Entry) (a : Node) (piece : List ℕ) → MayAsk shape past a (enqueues (source_of (suc m)) piece)
@@ -109,8 +109,8 @@ module _ (shape : Shape) (m : ℕ) (less : suc m ≤ count_in shape) where
     only : OnlyRealm a b
     there : (t : Told (List ℕ)) → IsShortOf (lies_to t b (suc m)) (lies_to (then_told (told (piece ∷ []) Open) t) a (suc m))
     elsewhere : (t : Told (List ℕ)) (k : ℕ) → k ≤ count_in shape → k ≢ suc m → IsShortOf (lies_to t b k) (lies_to t a k)
-    one : (q : ℕ) → OneAtMost q (behind_at 0 a.realm.slots).items → OneAtMost q (behind_at 0 b.realm.slots).items
-    older : b.stopped ≡ None → b.realm.slots.age ≡ suc a.realm.slots.age
+    one : (q : ℕ) → OneAtMost q (behind_at 0 a.core.realm.slots).items → OneAtMost q (behind_at 0 b.core.realm.slots).items
+    older : b.core.stopped ≡ None → b.core.realm.slots.age ≡ suc a.core.realm.slots.age
 
   puts-one : (past : List Entry) (piece : List ℕ) (a b : Node) → Led shape past a → Asks (enqueues (source_of (suc m)) piece) a b → AfterOne past piece a b
   puts-one past piece a b led asks =
@@ -122,8 +122,8 @@ module _ (shape : Shape) (m : ℕ) (less : suc m ≤ count_in shape) where
         there = λ t. subst (λ (q : Told Value). IsShortOf (lies_to t b (suc m)) (lies_to (then_told (in_bytes q) t) a (suc m))) (brings-there piece) (after.short (λ j. t) (suc m) less);
         elsewhere = λ t k l other. subst (λ (q : Told Value). IsShortOf (lies_to t b k) (lies_to (then_told (in_bytes q) t) a k)) (brings-elsewhere piece k other) (after.short (λ j. t) k l);
         one = λ q o. after.one q
-            (subst (λ (v : Told Value). OneAtMost q (then_told (behind_at 0 a.realm.slots) v).items) (sym (brings-elsewhere piece 0 not_first))
-            (subst (λ (v : Told Value). OneAtMost q v.items) (sym (then_empty (behind_at 0 a.realm.slots))) o));
+            (subst (λ (v : Told Value). OneAtMost q (then_told (behind_at 0 a.core.realm.slots) v).items) (sym (brings-elsewhere piece 0 not_first))
+            (subst (λ (v : Told Value). OneAtMost q v.items) (sym (then_empty (behind_at 0 a.core.realm.slots))) o));
         older = after.older;
       }
 

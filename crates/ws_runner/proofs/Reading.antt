@@ -107,7 +107,7 @@ only-then a b c first second =
     record {
       realm = second.realm;
       stopped = second.stopped;
-      is = second.is ∙ ap (λ (n : Node). record n { realm = second.realm; stopped = second.stopped }) first.is;
+      is = second.is ∙ ap (λ (n : Node). record n { core = record n.core { realm = second.realm; stopped = second.stopped } }) first.is;
     }
 
 record Both (shape : Shape) (past : List Entry) (c : Call) (n b : Node) : Type 0 where
@@ -115,12 +115,12 @@ record Both (shape : Shape) (past : List Entry) (c : Call) (n b : Node) : Type 0
   pub led : Led shape more b
   pub only : OnlyRealm n b
   pub short : (d : ℕ → Told (List ℕ)) (k : ℕ) → k ≤ count_in shape → IsShortOf (lies d b k) (lies (λ j. then_told (in_bytes (enters_in shape j c)) (d j)) n k)
-  pub one : (m : ℕ) → OneAtMost m (then_told (behind_at 0 n.realm.slots) (enters_in shape 0 c)).items → OneAtMost m (behind_at 0 b.realm.slots).items
-  pub older : b.stopped ≡ None → n.realm.slots.age ≤ b.realm.slots.age
+  pub one : (m : ℕ) → OneAtMost m (then_told (behind_at 0 n.core.realm.slots) (enters_in shape 0 c)).items → OneAtMost m (behind_at 0 b.core.realm.slots).items
+  pub older : b.core.stopped ≡ None → n.core.realm.slots.age ≤ b.core.realm.slots.age
 
-going-on : (c : Call) (a b : Node) → Asks c a b → b.stopped ≡ None → a.stopped ≡ None
+going-on : (c : Call) (a b : Node) → Asks c a b → b.core.stopped ≡ None → a.core.stopped ≡ None
 going-on c a b (Performed realm slots young goes is) e = goes
-going-on c a b (Refused why stops is) e = let f : b.stopped ≡ Some why = ap (λ (n : Node). n.stopped) is in absurd (cc)
+going-on c a b (Refused why stops is) e = let f : b.core.stopped ≡ Some why = ap (λ (n : Node). n.core.stopped) is in absurd (cc)
 
 -- the settling brings nothing
 settled-short : (shape : Shape) (mid b : Node) (id : HostId) (d : ℕ → Told (List ℕ)) (k : ℕ)
@@ -141,7 +141,7 @@ both shape past n mid b c id i pull led may asks settles_it =
       led = second.led;
       only = only-then n mid b first.only second.only;
       short = λ d k less. short_trans _ _ _ (settled-short shape mid b id d k (second.short d k less)) (first.short d k less);
-      one = λ m o. second.one m (settled-one shape (behind_at 0 mid.realm.slots) (settles id) m ((each_nodes_call_brings shape.origin 0).settle id AnswerOk) (first.one m o));
+      one = λ m o. second.one m (settled-one shape (behind_at 0 mid.core.realm.slots) (settles id) m ((each_nodes_call_brings shape.origin 0).settle id AnswerOk) (first.one m o));
       older = λ going.
           let one = second.older going in
           let other = first.older (going-on (settles id) mid b settles_it going) in
@@ -178,33 +178,33 @@ pushed-on : (m n : ℕ) (ws : List State) → m ≤ n → ArePushed m ws → Are
 pushed-on m n ws less h k d within = let few = h k d within in omega arith
 
 -- what lies at each place, where this call brings what was read, or nothing at all, to the first
-enters-at : (shape : Shape) (a : Node) (i : Input) (c : Call) (read : Told (List ℕ)) (d : ℕ → Told (List ℕ)) (b : Node) → a.stopped ≡ None → a.input ≡ input.Open
+enters-at : (shape : Shape) (a : Node) (i : Input) (c : Call) (read : Told (List ℕ)) (d : ℕ → Told (List ℕ)) (b : Node) → a.core.stopped ≡ None → a.entrance.input ≡ input.Open
     → IsShortOf (then_told (in_bytes (enters_in shape 0 c)) (d 0)) read
-    → IsShortOf (lies d b 0) (lying_by a.stopped (then_told (in_bytes (behind_at 0 a.realm.slots)) (then_told (in_bytes (enters_in shape 0 c)) (d 0))))
+    → IsShortOf (lies d b 0) (lying_by a.core.stopped (then_told (in_bytes (behind_at 0 a.core.realm.slots)) (then_told (in_bytes (enters_in shape 0 c)) (d 0))))
     → IsShortOf (lies d b 0) (then_told (lies_in a 0) read)
 enters-at shape a i c read d b goes was_open came h =
-    let x : Told (List ℕ) = in_bytes (behind_at 0 a.realm.slots) in
+    let x : Told (List ℕ) = in_bytes (behind_at 0 a.core.realm.slots) in
     let y : Told (List ℕ) = then_told (in_bytes (enters_in shape 0 c)) (d 0) in
-    let lay : lies_in a 0 ≡ x = ap (λ (w : Option Why). lying_by w (then_told x (lost_by a.input))) goes ∙ (ap (λ (i : Input). then_told x (lost_by i)) was_open ∙ then_empty x) in
+    let lay : lies_in a 0 ≡ x = ap (λ (w : Option Why). lying_by w (then_told x (lost_by a.entrance.input))) goes ∙ (ap (λ (i : Input). then_told x (lost_by i)) was_open ∙ then_empty x) in
     short_trans (lies d b 0) (then_told x y) (then_told (lies_in a 0) read)
     (subst (λ (w : Option Why). IsShortOf (lies d b 0) (lying_by w (then_told x y))) goes h)
     (short_as _ _ _ (ap (λ q. then_told q read) (sym lay)) (short_left x y read came))
 
-passes-at : (shape : Shape) (a : Node) (c : Call) (j : ℕ) (d : ℕ → Told (List ℕ)) (b : Node) → d (suc j) ≡ coming_behind j a.stages.items → enters_in shape (suc j) c ≡ silence
-    → IsShortOf (lies d b (suc j)) (lying_by a.stopped (then_told (in_bytes (behind_at (suc j) a.realm.slots)) (then_told (in_bytes (enters_in shape (suc j) c)) (d (suc j)))))
+passes-at : (shape : Shape) (a : Node) (c : Call) (j : ℕ) (d : ℕ → Told (List ℕ)) (b : Node) → d (suc j) ≡ coming_behind j a.core.stages.items → enters_in shape (suc j) c ≡ silence
+    → IsShortOf (lies d b (suc j)) (lying_by a.core.stopped (then_told (in_bytes (behind_at (suc j) a.core.realm.slots)) (then_told (in_bytes (enters_in shape (suc j) c)) (d (suc j)))))
     → IsShortOf (lies d b (suc j)) (lies_in a (suc j))
 passes-at shape a c j d b same silent h =
-    subst (λ (q : Told (List ℕ)). IsShortOf (lies d b (suc j)) (lying_by a.stopped (then_told (in_bytes (behind_at (suc j) a.realm.slots)) q)))
+    subst (λ (q : Told (List ℕ)). IsShortOf (lies d b (suc j)) (lying_by a.core.stopped (then_told (in_bytes (behind_at (suc j) a.core.realm.slots)) q)))
     (ap (λ (q : Told Value). then_told (in_bytes q) (d (suc j))) silent ∙ same) h
 
 -- what came in lies before the first stage, or what came of it
-reads-goes : (shape : Shape) (a b : Node) (read : Told (List ℕ)) → stages_in a ≡ shape.stages → works_in b ≡ works_in a → IsShortOf (lies_in b 0) (then_told (lies_in a 0) read)
+reads-goes : (shape : Shape) (a b : Node) (read : Told (List ℕ)) → stages_in a.core ≡ shape.stages → works_in b.core ≡ works_in a.core → IsShortOf (lies_in b 0) (then_told (lies_in a 0) read)
     → ((j : ℕ) → suc j ≤ count_in shape → IsShortOf (lies_in b (suc j)) (lies_in a (suc j)))
-    → Goes (machines (stages_in a)) read (parts a) (lying a) (parts b) (lying b)
+    → Goes (machines (stages_in a.core)) read (parts a) (lying a) (parts b) (lying b)
 reads-goes shape a b read stages works first others =
-    subst (λ (ws : List AtWork). Goes (machines (stages_in a)) read (parts a) (lying a) (parts_at 0 ws (lies_in b)) (behind_of 0 ws (lies_in b))) (sym works)
-    (goes_enters (machines (stages_in a)) 0 (works_in a) (lies_in a) (lies_in b) read (as-many a) first other) where
-      other : (j : ℕ) → 0 < j → j ≤ 0 + length (works_in a) → IsShortOf (lies_in b j) (lies_in a j)
+    subst (λ (ws : List AtWork). Goes (machines (stages_in a.core)) read (parts a) (lying a) (parts_at 0 ws (lies_in b)) (behind_of 0 ws (lies_in b))) (sym works)
+    (goes_enters (machines (stages_in a.core)) 0 (works_in a.core) (lies_in a) (lies_in b) read (as-many a) first other) where
+      other : (j : ℕ) → 0 < j → j ≤ 0 + length (works_in a.core) → IsShortOf (lies_in b j) (lies_in a j)
       other zero more less = absurd (omega arith)
       other (suc j) more less = others j (let l = works-count shape a stages in omega arith)
 
@@ -215,43 +215,43 @@ module _ (wf : ℕ) (finished : Option Bool) (p : List ℕ → Type 0) (shape : 
   abbrev m₁ : Moment
   m₁ = moment now new wf finished
 
-  module _ (goes : a.stopped ≡ None) (written : a.ahead ≡ 0) (was_open : a.input ≡ input.Open) (id : HostId) (asked : a.asked ≡ Some id) (want : ℕ) (most : want ≤ 4096)
-      (limit : want ≤ (a.most - a.taken) + 1) where
+  module _ (goes : a.core.stopped ≡ None) (written : a.entrance.ahead ≡ 0) (was_open : a.entrance.input ≡ input.Open) (id : HostId) (asked : a.entrance.asked ≡ Some id) (want : ℕ) (most : want ≤ 4096)
+      (limit : want ≤ (a.entrance.most - a.entrance.taken) + 1) where
     -- the pull that waited is one
     is_pull : (i : StreamId) × (slice_get (called past) id.0 ≡ Some (Pull i))
     is_pull = subst (IsPull past) asked s.led.asked
 
-    none : may_have a.stages.items a.output a.abort ≡ true → (behind_at 0 a.realm.slots).items ≡ []
-    none may = none-behind a.ahead (behind_at 0 a.realm.slots).items written (s.one may)
+    none : may_have a.core.stages.items a.exit.output a.exit.abort ≡ true → (behind_at 0 a.core.realm.slots).items ≡ []
+    none may = none-behind a.entrance.ahead (behind_at 0 a.core.realm.slots).items written (s.one may)
 
-    few : a.taken ≤ a.most
+    few : a.entrance.taken ≤ a.entrance.most
     few = s.led.counts.within (λ e. let f = was_open in cc)
 
     -- what was read came in by this call
-    took : (taken ahead : ℕ) (i : Input) (c : Call) (mid : Node) (read : Told (List ℕ)) → Counts a.most taken ahead i → MayAsk shape past (answering taken ahead i a) c
+    took : (taken ahead : ℕ) (i : Input) (c : Call) (mid : Node) (read : Told (List ℕ)) → Counts a.entrance.most taken ahead i → MayAsk shape past (answering taken ahead i a) c
         → Asks c (answering taken ahead i a) mid → Asks (settles id) mid b → ((j : ℕ) → enters_in shape (suc j) c ≡ silence)
         → IsShortOf (then_told (in_bytes (enters_in shape 0 c)) (lost_by i)) read
-        → ((behind_at 0 a.realm.slots).items ≡ [] → OneAtMost ahead (then_told (behind_at 0 a.realm.slots) (enters_in shape 0 c)).items)
-        → Fed old new (concat read.items) → All (λ c. length c ≤ 4096) read.items → taken ≡ a.taken + length (concat read.items) → length (concat read.items) ≤ ahead
-        → InputGoes a.input i read m₀ m₁ → Handled shape a b m₀ m₁ p p
+        → ((behind_at 0 a.core.realm.slots).items ≡ [] → OneAtMost ahead (then_told (behind_at 0 a.core.realm.slots) (enters_in shape 0 c)).items)
+        → Fed old new (concat read.items) → All (λ c. length c ≤ 4096) read.items → taken ≡ a.entrance.taken + length (concat read.items) → length (concat read.items) ≤ ahead
+        → InputGoes a.entrance.input i read m₀ m₁ → Handled shape a b m₀ m₁ p p
     took taken ahead i c mid read counts may asks settles_it silent came one fed short counted had goes_in =
         let n : Node = answering taken ahead i a in
         let h = both shape past n mid b c id is_pull.0 is_pull.1 (led-input shape past a taken ahead i was_open counts s.led) may asks settles_it in
         let same = only-same n b h.only in
-        let items : b.stages.items ≡ a.stages.items = ap (λ (q : Node). q.stages.items) h.only.is in
-        let ahead_is : b.ahead ≡ ahead = ap (λ (q : Node). q.ahead) h.only.is in
-        let taken_is : b.taken ≡ taken = same.taken in
-        let input_is : b.input ≡ i = same.input in
-        let coming_is : (j : ℕ) → coming b (suc j) ≡ coming_behind j a.stages.items = λ j. ap (λ ws. coming_behind j ws) items in
+        let items : b.core.stages.items ≡ a.core.stages.items = ap (λ (q : Node). q.core.stages.items) h.only.is in
+        let ahead_is : b.entrance.ahead ≡ ahead = ap (λ (q : Node). q.entrance.ahead) h.only.is in
+        let taken_is : b.entrance.taken ≡ taken = same.taken in
+        let input_is : b.entrance.input ≡ i = same.input in
+        let coming_is : (j : ℕ) → coming b (suc j) ≡ coming_behind j a.core.stages.items = λ j. ap (λ ws. coming_behind j ws) items in
         let first : IsShortOf (lies_in b 0) (then_told (lies_in a 0) read) =
         enters-at shape a i c read (coming b) b goes was_open (subst (λ q. IsShortOf (then_told (in_bytes (enters_in shape 0 c)) (lost_by q)) read) (sym input_is) came)
         (h.short (coming b) 0 (omega arith)) in
         record {
           past = h.more;
           led = h.led;
-          pushes = λ going. subst (λ ws. ArePushed b.realm.slots.age ws) (sym items) (pushed-on a.realm.slots.age b.realm.slots.age a.stages.items (h.older going) (s.pushes goes));
-          one = λ may_be. subst (λ q. OneAtMost q (behind_at 0 b.realm.slots).items) (sym ahead_is)
-              (h.one ahead (one (none (subst (λ (q : Node). may_have q.stages.items q.output q.abort ≡ true) h.only.is may_be))));
+          pushes = λ going. subst (λ ws. ArePushed b.core.realm.slots.age ws) (sym items) (pushed-on a.core.realm.slots.age b.core.realm.slots.age a.core.stages.items (h.older going) (s.pushes goes));
+          one = λ may_be. subst (λ q. OneAtMost q (behind_at 0 b.core.realm.slots).items) (sym ahead_is)
+              (h.one ahead (one (none (subst (λ (q : Node). may_have q.core.stages.items q.exit.output q.exit.abort ≡ true) h.only.is may_be))));
           went = record {
             read = read;
             went = nothing_yet;
@@ -261,7 +261,7 @@ module _ (wf : ℕ) (finished : Option Bool) (p : List ℕ → Type 0) (shape : 
               moves = (
                 record {
                   stages = same.stages;
-                  goes = reads-goes shape a b read s.led.is_of.stages (ap (λ (q : Node). works_in q) h.only.is) first
+                  goes = reads-goes shape a b read s.led.is_of.stages (ap (λ (q : Node). works_in q.core) h.only.is) first
                       (λ j less. passes-at shape a c j (coming b) b (coming_is j) (silent j) (h.short (coming b) (suc j) less));
                 },
                 tt,
@@ -273,15 +273,15 @@ module _ (wf : ℕ) (finished : Option Bool) (p : List ℕ → Type 0) (shape : 
               fed = fed;
               short = short;
               counted = taken_is ∙ counted;
-              input = subst (λ q. InputGoes a.input q read m₀ m₁) (sym input_is) goes_in;
+              input = subst (λ q. InputGoes a.entrance.input q read m₀ m₁) (sym input_is) goes_in;
               source = same.source;
               most = same.most;
             };
             into = record {
               gained = Gains-nothing p;
               written = (refl, refl);
-              output = subst (λ o. OutputGoes a.output o [] MayCome m₀ m₁) (sym same.output) (output-calm a.output wf finished before now old new);
-              abort = subst (λ x. AbortGoes a.abort x [] [] b.output) (sym same.abort) (abort-same a.abort [] b.output);
+              output = subst (λ o. OutputGoes a.exit.output o [] MayCome m₀ m₁) (sym same.output) (output-calm a.exit.output wf finished before now old new);
+              abort = subst (λ x. AbortGoes a.exit.abort x [] [] b.exit.output) (sym same.abort) (abort-same a.exit.abort [] b.exit.output);
               sink = same.sink;
             };
             ahead = λ e. omega arith;
@@ -290,24 +290,24 @@ module _ (wf : ℕ) (finished : Option Bool) (p : List ℕ → Type 0) (shape : 
         }
 
     -- the end of the input
-    ended : (c : Node) → IsPiece old new before now want [] → Asks (Finish a.source) (answering a.taken a.ahead input.Ended a) c → Asks (settles id) c b → Handled shape a b m₀ m₁ p p
+    ended : (c : Node) → IsPiece old new before now want [] → Asks (Finish a.entrance.source) (answering a.entrance.taken a.entrance.ahead input.Ended a) c → Asks (settles id) c b → Handled shape a b m₀ m₁ p p
     ended c piece asks settles_it =
         let counts = s.led.counts in
         let limited = counts.limited in
         let bound = counts.bound in
         let room = counts.piece in
         let fewer = few in
-        took a.taken a.ahead input.Ended (Finish a.source) c (told [] Closed)
+        took a.entrance.taken a.entrance.ahead input.Ended (Finish a.entrance.source) c (told [] Closed)
         (record { limited = omega arith; bound = omega arith; within = λ e. fewer; beyond = λ e. absurd (cc); piece = omega arith; failed = λ e. absurd (cc) })
-        (record { is_own = (0, omega arith, s.led.is_of.source); failed = All-nil (IsCause (answering a.taken a.ahead input.Ended a)); closes = λ i e. absurd (cc); flushes = λ i j e. absurd (cc) })
-        asks settles_it (λ j. finish-at shape a.source s.led.is_of.from s.led.is_of.source (suc j) ∙ not-first (told [] Closed) j)
-        (subst (λ (t : Told Value). IsShortOf (then_told (in_bytes t) (lost_by input.Ended)) (told [] Closed)) (sym (finish-at shape a.source s.led.is_of.from s.led.is_of.source 0)) (refl, refl))
-        (λ e. subst (λ q. OneAtMost a.ahead (then_told (behind_at 0 a.realm.slots) q).items) (sym (finish-at shape a.source s.led.is_of.from s.led.is_of.source 0)) (one-closes a.ahead (behind_at 0 a.realm.slots) Closed e))
+        (record { is_own = (0, omega arith, s.led.is_of.source); failed = All-nil (IsCause (answering a.entrance.taken a.entrance.ahead input.Ended a)); closes = λ i e. absurd (cc); flushes = λ i j e. absurd (cc) })
+        asks settles_it (λ j. finish-at shape a.entrance.source s.led.is_of.from s.led.is_of.source (suc j) ∙ not-first (told [] Closed) j)
+        (subst (λ (t : Told Value). IsShortOf (then_told (in_bytes t) (lost_by input.Ended)) (told [] Closed)) (sym (finish-at shape a.entrance.source s.led.is_of.from s.led.is_of.source 0)) (refl, refl))
+        (λ e. subst (λ q. OneAtMost a.entrance.ahead (then_told (behind_at 0 a.core.realm.slots) q).items) (sym (finish-at shape a.entrance.source s.led.is_of.from s.led.is_of.source 0)) (one-closes a.entrance.ahead (behind_at 0 a.core.realm.slots) Closed e))
         piece.moved (All-nil (λ c. length c ≤ 4096)) (omega arith) (omega arith)
         (rw was_open (refl, piece.calm, (piece.end refl).1, IsEmpty-kept old new [] (piece.end refl).0 piece.moved))
 
     -- a failed read
-    failed : (c : Node) → Fed old new [] → KeepsEnd old new → Rose before now → Asks (Fail a.source (FaultReason ReadFault)) (answering a.taken a.ahead input.Failed a) c → Asks (settles id) c b
+    failed : (c : Node) → Fed old new [] → KeepsEnd old new → Rose before now → Asks (Fail a.entrance.source (FaultReason ReadFault)) (answering a.entrance.taken a.entrance.ahead input.Failed a) c → Asks (settles id) c b
         → Handled shape a b m₀ m₁ p p
     failed c fed kept rose asks settles_it =
         let counts = s.led.counts in
@@ -315,14 +315,14 @@ module _ (wf : ℕ) (finished : Option Bool) (p : List ℕ → Type 0) (shape : 
         let bound = counts.bound in
         let room = counts.piece in
         let fewer = few in
-        let n : Node = answering a.taken a.ahead input.Failed a in
-        took a.taken a.ahead input.Failed (Fail a.source (FaultReason ReadFault)) c (told [] Lost)
+        let n : Node = answering a.entrance.taken a.entrance.ahead input.Failed a in
+        took a.entrance.taken a.entrance.ahead input.Failed (Fail a.entrance.source (FaultReason ReadFault)) c (told [] Lost)
         (record { limited = omega arith; bound = omega arith; within = λ e. fewer; beyond = λ e. absurd (cc); piece = omega arith; failed = λ e. written })
         (record { is_own = (0, omega arith, s.led.is_of.source); failed = All-cons (IsCause n) (FaultReason ReadFault) [] refl (All-nil (IsCause n)); closes = λ i e. absurd (cc); flushes = λ i j e. absurd (cc) })
-        asks settles_it (λ j. (each_nodes_call_brings shape.origin (suc j)).fail a.source (FaultReason ReadFault))
-        (subst (λ (t : Told Value). IsShortOf (then_told (in_bytes t) (lost_by input.Failed)) (told [] Lost)) (sym ((each_nodes_call_brings shape.origin 0).fail a.source (FaultReason ReadFault))) ([], refl))
-        (λ e. subst (λ q. OneAtMost a.ahead (then_told (behind_at 0 a.realm.slots) q).items) (sym ((each_nodes_call_brings shape.origin 0).fail a.source (FaultReason ReadFault)))
-        (one-closes a.ahead (behind_at 0 a.realm.slots) MayCome e))
+        asks settles_it (λ j. (each_nodes_call_brings shape.origin (suc j)).fail a.entrance.source (FaultReason ReadFault))
+        (subst (λ (t : Told Value). IsShortOf (then_told (in_bytes t) (lost_by input.Failed)) (told [] Lost)) (sym ((each_nodes_call_brings shape.origin 0).fail a.entrance.source (FaultReason ReadFault))) ([], refl))
+        (λ e. subst (λ q. OneAtMost a.entrance.ahead (then_told (behind_at 0 a.core.realm.slots) q).items) (sym ((each_nodes_call_brings shape.origin 0).fail a.entrance.source (FaultReason ReadFault)))
+        (one-closes a.entrance.ahead (behind_at 0 a.core.realm.slots) MayCome e))
         fed (All-nil (λ c. length c ≤ 4096)) (omega arith) (omega arith) (rw was_open (refl, rose, kept))
 
     -- bytes
@@ -339,7 +339,7 @@ module _ (wf : ℕ) (finished : Option Bool) (p : List ℕ → Type 0) (shape : 
       one_short : All (λ c. length c ≤ 4096) ((x ∷ rest) ∷ [])
       one_short = All-cons (λ c. length c ≤ 4096) (x ∷ rest) [] (let long = piece.short in omega arith) (All-nil (λ c. length c ≤ 4096))
 
-      too_many : (c : Node) → a.most < a.taken + length (x ∷ rest) → Asks (Fail a.source (FaultReason TooMuch)) (answering (a.taken + length (x ∷ rest)) (length (x ∷ rest)) input.TooLong a) c
+      too_many : (c : Node) → a.entrance.most < a.entrance.taken + length (x ∷ rest) → Asks (Fail a.entrance.source (FaultReason TooMuch)) (answering (a.entrance.taken + length (x ∷ rest)) (length (x ∷ rest)) input.TooLong a) c
           → Asks (settles id) c b → Handled shape a b m₀ m₁ p p
       too_many c more asks settles_it =
           let counts = s.led.counts in
@@ -347,59 +347,59 @@ module _ (wf : ℕ) (finished : Option Bool) (p : List ℕ → Type 0) (shape : 
           let short = piece.short in
           let fewer = few in
           let counted = count in
-          let n : Node = answering (a.taken + length (x ∷ rest)) (length (x ∷ rest)) input.TooLong a in
-          took (a.taken + length (x ∷ rest)) (length (x ∷ rest)) input.TooLong (Fail a.source (FaultReason TooMuch)) c (told ((x ∷ rest) ∷ []) Lost)
+          let n : Node = answering (a.entrance.taken + length (x ∷ rest)) (length (x ∷ rest)) input.TooLong a in
+          took (a.entrance.taken + length (x ∷ rest)) (length (x ∷ rest)) input.TooLong (Fail a.entrance.source (FaultReason TooMuch)) c (told ((x ∷ rest) ∷ []) Lost)
           (record { limited = omega arith; bound = omega arith; within = λ e. absurd (e refl); beyond = λ e. more; piece = omega arith; failed = λ e. absurd (cc) })
           (record { is_own = (0, omega arith, s.led.is_of.source); failed = All-cons (IsCause n) (FaultReason TooMuch) [] refl (All-nil (IsCause n)); closes = λ i e. absurd (cc); flushes = λ i j e. absurd (cc) })
-          asks settles_it (λ j. (each_nodes_call_brings shape.origin (suc j)).fail a.source (FaultReason TooMuch))
-          (subst (λ (t : Told Value). IsShortOf (then_told (in_bytes t) (lost_by input.TooLong)) (told ((x ∷ rest) ∷ []) Lost)) (sym ((each_nodes_call_brings shape.origin 0).fail a.source (FaultReason TooMuch)))
+          asks settles_it (λ j. (each_nodes_call_brings shape.origin (suc j)).fail a.entrance.source (FaultReason TooMuch))
+          (subst (λ (t : Told Value). IsShortOf (then_told (in_bytes t) (lost_by input.TooLong)) (told ((x ∷ rest) ∷ []) Lost)) (sym ((each_nodes_call_brings shape.origin 0).fail a.entrance.source (FaultReason TooMuch)))
           ((x ∷ rest) ∷ [], refl))
-          (λ e. subst (λ q. OneAtMost (length (x ∷ rest)) (then_told (behind_at 0 a.realm.slots) q).items) (sym ((each_nodes_call_brings shape.origin 0).fail a.source (FaultReason TooMuch)))
-          (one-closes (length (x ∷ rest)) (behind_at 0 a.realm.slots) MayCome e))
+          (λ e. subst (λ q. OneAtMost (length (x ∷ rest)) (then_told (behind_at 0 a.core.realm.slots) q).items) (sym ((each_nodes_call_brings shape.origin 0).fail a.entrance.source (FaultReason TooMuch)))
+          (one-closes (length (x ∷ rest)) (behind_at 0 a.core.realm.slots) MayCome e))
           fed_all one_short (omega arith) (omega arith) (rw was_open (refl, piece.calm, piece.before_end (omega arith)))
 
-      some : (c : Node) → a.taken + length (x ∷ rest) ≤ a.most → Asks (Enqueue a.source (Bytes (x ∷ rest))) (answering (a.taken + length (x ∷ rest)) (length (x ∷ rest)) a.input a) c
+      some : (c : Node) → a.entrance.taken + length (x ∷ rest) ≤ a.entrance.most → Asks (Enqueue a.entrance.source (Bytes (x ∷ rest))) (answering (a.entrance.taken + length (x ∷ rest)) (length (x ∷ rest)) a.entrance.input a) c
           → Asks (settles id) c b → Handled shape a b m₀ m₁ p p
       some c within asks settles_it =
           let counts = s.led.counts in
           let limited = counts.limited in
           let short = piece.short in
           let counted = count in
-          took (a.taken + length (x ∷ rest)) (length (x ∷ rest)) a.input (Enqueue a.source (Bytes (x ∷ rest))) c (told ((x ∷ rest) ∷ []) MayCome)
+          took (a.entrance.taken + length (x ∷ rest)) (length (x ∷ rest)) a.entrance.input (Enqueue a.entrance.source (Bytes (x ∷ rest))) c (told ((x ∷ rest) ∷ []) MayCome)
           (record { limited = omega arith; bound = omega arith; within = λ e. within; beyond = λ e. let f = was_open in absurd (cc); piece = omega arith; failed = λ e. let f = was_open in absurd (cc) })
-          (record { is_own = tt; failed = All-nil (IsCause (answering (a.taken + length (x ∷ rest)) (length (x ∷ rest)) a.input a)); closes = λ i e. absurd (cc); flushes = λ i j e. absurd (cc) })
-          asks settles_it (λ j. bytes-at shape a.source s.led.is_of.from s.led.is_of.source x rest (suc j) ∙ not-first (told (Bytes (x ∷ rest) ∷ []) MayCome) j)
-          (subst (λ (i : Input). IsShortOf (then_told (in_bytes (enters_in shape 0 (Enqueue a.source (Bytes (x ∷ rest))))) (lost_by i)) (told ((x ∷ rest) ∷ []) MayCome)) (sym was_open)
-          (subst (λ (t : Told Value). IsShortOf (then_told (in_bytes t) nothing_yet) (told ((x ∷ rest) ∷ []) MayCome)) (sym (bytes-at shape a.source s.led.is_of.from s.led.is_of.source x rest 0)) (refl, refl)))
-          (λ e. subst (λ q. OneAtMost (length (x ∷ rest)) (then_told (behind_at 0 a.realm.slots) q).items) (sym (bytes-at shape a.source s.led.is_of.from s.led.is_of.source x rest 0))
-          (one-comes (length (x ∷ rest)) (x ∷ rest) (behind_at 0 a.realm.slots) e refl (omega arith)))
+          (record { is_own = tt; failed = All-nil (IsCause (answering (a.entrance.taken + length (x ∷ rest)) (length (x ∷ rest)) a.entrance.input a)); closes = λ i e. absurd (cc); flushes = λ i j e. absurd (cc) })
+          asks settles_it (λ j. bytes-at shape a.entrance.source s.led.is_of.from s.led.is_of.source x rest (suc j) ∙ not-first (told (Bytes (x ∷ rest) ∷ []) MayCome) j)
+          (subst (λ (i : Input). IsShortOf (then_told (in_bytes (enters_in shape 0 (Enqueue a.entrance.source (Bytes (x ∷ rest))))) (lost_by i)) (told ((x ∷ rest) ∷ []) MayCome)) (sym was_open)
+          (subst (λ (t : Told Value). IsShortOf (then_told (in_bytes t) nothing_yet) (told ((x ∷ rest) ∷ []) MayCome)) (sym (bytes-at shape a.entrance.source s.led.is_of.from s.led.is_of.source x rest 0)) (refl, refl)))
+          (λ e. subst (λ q. OneAtMost (length (x ∷ rest)) (then_told (behind_at 0 a.core.realm.slots) q).items) (sym (bytes-at shape a.entrance.source s.led.is_of.from s.led.is_of.source x rest 0))
+          (one-comes (length (x ∷ rest)) (x ∷ rest) (behind_at 0 a.core.realm.slots) e refl (omega arith)))
           fed_all one_short (omega arith) (omega arith)
           (subst (λ (i : Input). InputGoes i i (told ((x ∷ rest) ∷ []) MayCome) m₀ m₁) (sym was_open) (refl, piece.calm, piece.before_end (omega arith)))
 
-      taken_by : (c : Node) (t : Bool) → nat_lt a.most (a.taken + length (x ∷ rest)) ≡ t → takes_bytes (x ∷ rest) (record a { asked = None }) c t → Asks (settles id) c b
+      taken_by : (c : Node) (t : Bool) → nat_lt a.entrance.most (a.entrance.taken + length (x ∷ rest)) ≡ t → takes_bytes (x ∷ rest) (record a { entrance = record a.entrance { asked = None } }) c t → Asks (settles id) c b
           → Handled shape a b m₀ m₁ p p
       taken_by c true e asks settles_it = too_many c (grind (arith, nat_tests)) asks settles_it
       taken_by c false e asks settles_it = some c (grind (arith, nat_tests)) asks settles_it
 
-    once : (piece : Result (List ℕ) Failed) (c : Node) → GivesPiece old new before now want piece → Takes piece (record a { asked = None }) c → Asks (settles id) c b
+    once : (piece : Result (List ℕ) Failed) (c : Node) → GivesPiece old new before now want piece → Takes piece (record a { entrance = record a.entrance { asked = None } }) c → Asks (settles id) c b
         → Handled shape a b m₀ m₁ p p
     once (Ok []) c gives takes settles_it = ended c gives takes settles_it
-    once (Ok (x ∷ rest)) c gives takes settles_it = taken_by x rest gives c (nat_lt a.most (a.taken + length (x ∷ rest))) refl takes settles_it
+    once (Ok (x ∷ rest)) c gives takes settles_it = taken_by x rest gives c (nat_lt a.entrance.most (a.entrance.taken + length (x ∷ rest))) refl takes settles_it
     once (Err failure) c gives takes settles_it = failed c gives.moved gives.before_end gives.rose takes settles_it
 
 -- there was no memory for a read
-wanted : (shape : Shape) (past : List Entry) (a : Node) (m : Moment) (p : List ℕ → Type 0) → Since shape past a → a.stopped ≡ None
-    → Handled shape a (record a { asked = None; stopped = Some NoMemory }) m m p p
+wanted : (shape : Shape) (past : List Entry) (a : Node) (m : Moment) (p : List ℕ → Type 0) → Since shape past a → a.core.stopped ≡ None
+    → Handled shape a (record a { core = record a.core { stopped = Some NoMemory }; entrance = record a.entrance { asked = None } }) m m p p
 wanted shape past a m p s goes =
-    let b : Node = record a { asked = None; stopped = Some NoMemory } in
+    let b : Node = record a { core = record a.core { stopped = Some NoMemory }; entrance = record a.entrance { asked = None } } in
     record {
       past = past;
-      led = led-stopped shape past (record a { asked = None }) NoMemory (λ e. absurd (cc)) (led-unasked shape past a s.led);
+      led = led-stopped shape past (record a { entrance = record a.entrance { asked = None } }) NoMemory (λ e. absurd (cc)) (led-unasked shape past a s.led);
       pushes = λ e. absurd (cc);
       one = s.one;
       went = went-quietly a b m p p (Gains-nothing p) (going-stays a b goes)
           (record { taken = refl; ahead = λ e. refl; input = refl; output = refl; abort = refl; stages = refl; source = refl; sink = refl; most = refl; pipe = refl; pipes = refl })
-          (goes_rests (machines (stages_in a)) 0 (works_in a) (lies_in a) (lies_in b) (as-many a) (λ j h k. ((lies_in a j).items, refl)));
+          (goes_rests (machines (stages_in a.core)) 0 (works_in a.core) (lies_in a) (lies_in b) (as-many a) (λ j h k. ((lies_in a j).items, refl)));
     }
 
 -- a node reads its input, or doesn't

@@ -46,7 +46,7 @@ ends-fine : (i : StreamId) (e : Ending) → answer_by i e ≡ AnswerOk → e ≡
 ends-fine i Fine h = refl
 ends-fine i (Bad code place) h = absurd (cc)
 
-causes : (id : HostId) (i : StreamId) (e : Ending) (n : Node) → ((code place : ℕ) → e ≡ Bad code place → EndedAs (stage_of i) code place n.stages.items)
+causes : (id : HostId) (i : StreamId) (e : Ending) (n : Node) → ((code place : ℕ) → e ≡ Bad code place → EndedAs (stage_of i) code place n.core.stages.items)
     → All (IsCause n) (failure_of (Settle id (answer_by i e)))
 causes id i Fine n bad = All-nil (IsCause n)
 causes id i (Bad code place) n bad = All-cons (IsCause n) (FaultReason (StageFault (stage_of i) code place)) [] (bad code place refl) (All-nil (IsCause n))
@@ -77,12 +77,12 @@ the-stage i items before after v at whole first last w there =
 
 -- the settling of a call that isn't a close: a failure with the stage that ended badly, or of a flush, well where the stage ended fine
 pub may-answer : (shape : Shape) (past more : List Entry) (id : HostId) (i : StreamId) (e : Ending) (call : HostCall) (n : Node) → slice_get (called past) id.0 ≡ Some call
-    → ((s : StreamId) → call ≡ Close s → ⊥) → ((code place : ℕ) → e ≡ Bad code place → EndedAs (stage_of i) code place n.stages.items)
-    → ((s : StreamId) → call ≡ Flush s → e ≡ Fine → (first last : List State) (w : State) → IsAt s n.stages.items first w last → w.work ≡ Over Fine)
+    → ((s : StreamId) → call ≡ Close s → ⊥) → ((code place : ℕ) → e ≡ Bad code place → EndedAs (stage_of i) code place n.core.stages.items)
+    → ((s : StreamId) → call ≡ Flush s → e ≡ Fine → (first last : List State) (w : State) → IsAt s n.core.stages.items first w last → w.work ≡ Over Fine)
     → MayAsk shape (past ++ more) n (Settle id (answer_by i e))
 may-answer shape past more id i e call n is no_close bad fine =
     may-settle shape (past ++ more) n id call (called-longer past more id call is) (answer_by i e) (causes id i e n bad)
-    (λ c x. absurd (no_close n.sink c)) (λ s f x. fine s f (ends-fine i e x))
+    (λ c x. absurd (no_close n.exit.sink c)) (λ s f x. fine s f (ends-fine i e x))
 
 pub record AfterAll (shape : Shape) (past : List Entry) (m : ℕ) (chunks : List (List ℕ)) (a b : Node) : Type 0 where
   pub more : List Entry
@@ -90,8 +90,8 @@ pub record AfterAll (shape : Shape) (past : List Entry) (m : ℕ) (chunks : List
   pub only : OnlyRealm a b
   pub there : (t : Told (List ℕ)) → IsShortOf (lies_to t b (suc m)) (lies_to (then_told (told chunks Open) t) a (suc m))
   pub elsewhere : (t : Told (List ℕ)) (k : ℕ) → k ≤ count_in shape → k ≢ suc m → IsShortOf (lies_to t b k) (lies_to t a k)
-  pub one : (q : ℕ) → OneAtMost q (behind_at 0 a.realm.slots).items → OneAtMost q (behind_at 0 b.realm.slots).items
-  pub younger : b.stopped ≡ None → a.realm.slots.age < b.realm.slots.age
+  pub one : (q : ℕ) → OneAtMost q (behind_at 0 a.core.realm.slots).items → OneAtMost q (behind_at 0 b.core.realm.slots).items
+  pub younger : b.core.stopped ≡ None → a.core.realm.slots.age < b.core.realm.slots.age
 
 pub puts-all : (shape : Shape) (past : List Entry) (m : ℕ) (id : HostId) (i : StreamId) (p : Pushed) (a b : Node) → suc m ≤ count_in shape → i ≡ source_of (suc m) → Led shape past a
     → ((more : List Entry) (n : Node) → OnlyRealm a n → MayAsk shape (past ++ more) n (Settle id (answer_by i p.ending))) → PutsAll id i p a b → AfterAll shape past m p.chunks.items a b

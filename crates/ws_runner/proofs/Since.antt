@@ -55,7 +55,7 @@ use Rattle.ws_runner.proofs.Ran.{own-nodes, ran-longer, ran-same, piped-longer}
 
 -- A node of which only the realm changed, and that may have stopped
 
-fault-stays : (n : Node) (realm : SeenRealm) (stopped : Option Why) (f : Fault) → IsCauseFault n f → IsCauseFault (record n { realm = realm; stopped = stopped }) f
+fault-stays : (n : Node) (realm : SeenRealm) (stopped : Option Why) (f : Fault) → IsCauseFault n f → IsCauseFault (record n { core = record n.core { realm = realm; stopped = stopped } }) f
 fault-stays n realm stopped fault.Read h = h
 fault-stays n realm stopped fault.TooMuch h = h
 fault-stays n realm stopped fault.Write h = h
@@ -67,7 +67,7 @@ fault-stays n realm stopped fault.DataClone h = h
 fault-stays n realm stopped (fault.User k) h = h
 fault-stays n realm stopped fault.NoMemory h = h
 
-cause-stays : (n : Node) (realm : SeenRealm) (stopped : Option Why) (r : Plain) → IsCause n r → IsCause (record n { realm = realm; stopped = stopped }) r
+cause-stays : (n : Node) (realm : SeenRealm) (stopped : Option Why) (r : Plain) → IsCause n r → IsCause (record n { core = record n.core { realm = realm; stopped = stopped } }) r
 cause-stays n realm stopped (plain.Fault f) h = fault-stays n realm stopped f h
 cause-stays n realm stopped plain.Undefined h = h
 cause-stays n realm stopped (plain.Number k) h = h
@@ -75,15 +75,15 @@ cause-stays n realm stopped (plain.Pair t) h = h
 cause-stays n realm stopped (plain.Local k) h = h
 
 -- where its past may be longer too
-led-as : (shape : Shape) (past ys : List Entry) (n : Node) (realm : SeenRealm) (stopped : Option Why) → Led shape past n → HasRun shape ys realm.slots → IsPiped (count_in shape) ys n.pipe
-    → All (IsCause n) (failures ys) → ClosesFinished n.sink ys n.output → FlushesFine ys n.stages.items → IsPull ys n.asked
-    → realm.slots.age ≤ oldest → (stopped ≡ Some Spent → realm.slots.age ≡ oldest) → Led shape ys (record n { realm = realm; stopped = stopped })
+led-as : (shape : Shape) (past ys : List Entry) (n : Node) (realm : SeenRealm) (stopped : Option Why) → Led shape past n → HasRun shape ys realm.slots → IsPiped (count_in shape) ys n.core.pipe
+    → All (IsCause n) (failures ys) → ClosesFinished n.exit.sink ys n.exit.output → FlushesFine ys n.core.stages.items → IsPull ys n.entrance.asked
+    → realm.slots.age ≤ oldest → (stopped ≡ Some Spent → realm.slots.age ≡ oldest) → Led shape ys (record n { core = record n.core { realm = realm; stopped = stopped } })
 led-as shape past ys n realm stopped s ran piped failed closes flushes asked young spent =
     record {
       is_of = record { fit = s.is_of.fit; from = s.is_of.from; into = s.is_of.into; stages = s.is_of.stages; source = s.is_of.source; sink = s.is_of.sink; most = s.is_of.most; signal = s.is_of.signal };
       ran = ran;
       piped = piped;
-      failed = All-weaker (IsCause n) (IsCause (record n { realm = realm; stopped = stopped })) (cause-stays n realm stopped) (failures ys) failed;
+      failed = All-weaker (IsCause n) (IsCause (record n { core = record n.core { realm = realm; stopped = stopped } })) (cause-stays n realm stopped) (failures ys) failed;
       closes = closes;
       flushes = flushes;
       asked = asked;
@@ -94,40 +94,40 @@ led-as shape past ys n realm stopped s ran piped failed closes flushes asked you
     }
 
 -- with the same past
-led-stays : (shape : Shape) (past : List Entry) (n : Node) (realm : SeenRealm) (stopped : Option Why) → Led shape past n → realm.slots ≡ n.realm.slots
-    → (stopped ≡ Some Spent → n.realm.slots.age ≡ oldest) → Led shape past (record n { realm = realm; stopped = stopped })
+led-stays : (shape : Shape) (past : List Entry) (n : Node) (realm : SeenRealm) (stopped : Option Why) → Led shape past n → realm.slots ≡ n.core.realm.slots
+    → (stopped ≡ Some Spent → n.core.realm.slots.age ≡ oldest) → Led shape past (record n { core = record n.core { realm = realm; stopped = stopped } })
 led-stays shape past n realm stopped s e spent =
-    led-as shape past past n realm stopped s (ran-same shape past n.realm.slots realm.slots s.ran e) s.piped s.failed s.closes s.flushes s.asked
+    led-as shape past past n realm stopped s (ran-same shape past n.core.realm.slots realm.slots s.ran e) s.piped s.failed s.closes s.flushes s.asked
     (subst (λ (q : Slots). q.age ≤ oldest) (sym e) s.age) (λ f. ap (λ (q : Slots). q.age) e ∙ spent f)
 
 -- and as the past is longer by one entry
-longer : (shape : Shape) (past : List Entry) (x : Entry) (n : Node) (realm : SeenRealm) → Led shape past n → realm.slots ≡ step n.realm.slots x → realm.slots.age ≤ oldest
-    → (n.stopped ≡ Some Spent → realm.slots.age ≡ oldest) → IsOwnEntry (count_in shape) x → All (IsCause n) (failures (x ∷ [])) → MayClose n.sink past x n.output
-    → MayFlush past x n.stages.items → Led shape (past ++ x ∷ []) (with_realm realm n)
+longer : (shape : Shape) (past : List Entry) (x : Entry) (n : Node) (realm : SeenRealm) → Led shape past n → realm.slots ≡ step n.core.realm.slots x → realm.slots.age ≤ oldest
+    → (n.core.stopped ≡ Some Spent → realm.slots.age ≡ oldest) → IsOwnEntry (count_in shape) x → All (IsCause n) (failures (x ∷ [])) → MayClose n.exit.sink past x n.exit.output
+    → MayFlush past x n.core.stages.items → Led shape (past ++ x ∷ []) (with_realm realm n)
 longer shape past x n realm s is young spent own reasons closes flushes =
-    led-as shape past (past ++ x ∷ []) n realm n.stopped s
-    (ran-longer shape past x n.realm.slots realm.slots s.ran is own)
-    (piped-longer (count_in shape) past (x ∷ []) n.pipe s.piped)
+    led-as shape past (past ++ x ∷ []) n realm n.core.stopped s
+    (ran-longer shape past x n.core.realm.slots realm.slots s.ran is own)
+    (piped-longer (count_in shape) past (x ∷ []) n.core.pipe s.piped)
     (subst (All (IsCause n)) (sym (failures-snoc past x)) (All-append (IsCause n) (failures past) (failures (x ∷ [])) s.failed reasons))
-    (closes-snoc n.sink past x n.output s.closes closes)
-    (flushes-snoc past x n.stages.items s.flushes flushes)
-    (pull-longer past (x ∷ []) n.asked s.asked)
+    (closes-snoc n.exit.sink past x n.exit.output s.closes closes)
+    (flushes-snoc past x n.core.stages.items s.flushes flushes)
+    (pull-longer past (x ∷ []) n.entrance.asked s.asked)
     young spent
 
 -- only the realm changed, and that may have stopped
 pub record OnlyRealm (a b : Node) : Type 0 where
   pub realm : SeenRealm
   pub stopped : Option Why
-  pub is : b ≡ record a { realm = realm; stopped = stopped }
+  pub is : b ≡ record a { core = record a.core { realm = realm; stopped = stopped } }
 
 -- What a node may ask of its realm: calls of its own, with reasons that have their cause. It settles the close of the sink well only where the output was
 -- finished, and the flush of a stage only where that ended fine
 pub record MayAsk (shape : Shape) (past : List Entry) (n : Node) (c : Call) : Type 0 where
   pub is_own : IsOwn (count_in shape) c
   pub failed : All (IsCause n) (failure_of c)
-  pub closes : (id : HostId) → c ≡ settles_well id → slice_get (called past) id.0 ≡ Some (Close n.sink) → n.output ≡ output.Finished
+  pub closes : (id : HostId) → c ≡ settles_well id → slice_get (called past) id.0 ≡ Some (Close n.exit.sink) → n.exit.output ≡ output.Finished
   pub flushes : (id : HostId) (i : StreamId) → c ≡ settles_well id → slice_get (called past) id.0 ≡ Some (Flush i)
-      → (first last : List State) (w : State) → IsAt i n.stages.items first w last → w.work ≡ Over Fine
+      → (first last : List State) (w : State) → IsAt i n.core.stages.items first w last → w.work ≡ Over Fine
 
 -- After a call: what lies on each link is, or is short of, what lay there and then what the call brings, whatever comes behind
 pub record AfterCall (shape : Shape) (past : List Entry) (c : Call) (a b : Node) : Type 0 where
@@ -135,8 +135,8 @@ pub record AfterCall (shape : Shape) (past : List Entry) (c : Call) (a b : Node)
   pub led : Led shape (past ++ more) b
   pub only : OnlyRealm a b
   pub short : (d : ℕ → Told (List ℕ)) (k : ℕ) → k ≤ count_in shape → IsShortOf (lies d b k) (lies (λ j. then_told (in_bytes (enters_in shape j c)) (d j)) a k)
-  pub one : (m : ℕ) → OneAtMost m (then_told (behind_at 0 a.realm.slots) (enters_in shape 0 c)).items → OneAtMost m (behind_at 0 b.realm.slots).items
-  pub older : b.stopped ≡ None → b.realm.slots.age ≡ suc a.realm.slots.age
+  pub one : (m : ℕ) → OneAtMost m (then_told (behind_at 0 a.core.realm.slots) (enters_in shape 0 c)).items → OneAtMost m (behind_at 0 b.core.realm.slots).items
+  pub older : b.core.stopped ≡ None → b.core.realm.slots.age ≡ suc a.core.realm.slots.age
 
 -- a call
 
@@ -144,18 +144,18 @@ same_call : (c d : Call) → Called c ≡ Called d → c ≡ d
 same_call c d e = grind arith
 
 -- what lies there after a call that was performed
-pub call-short : (shape : Shape) (past : List Entry) (a : Node) (realm : SeenRealm) (c : Call) → Led shape past a → IsOwn (count_in shape) c → realm.slots ≡ after_call c a.realm.slots
-    → (k : ℕ) → k ≤ count_in shape → IsShortOf (behind_at k realm.slots) (then_told (behind_at k a.realm.slots) (enters_in shape k c))
+pub call-short : (shape : Shape) (past : List Entry) (a : Node) (realm : SeenRealm) (c : Call) → Led shape past a → IsOwn (count_in shape) c → realm.slots ≡ after_call c a.core.realm.slots
+    → (k : ℕ) → k ≤ count_in shape → IsShortOf (behind_at k realm.slots) (then_told (behind_at k a.core.realm.slots) (enters_in shape k c))
 call-short shape past a realm c led own slots k l =
-    subst (λ q. IsShortOf (behind_at k q) (then_told (behind_at k a.realm.slots) (enters_in shape k c))) (sym slots)
-    ((each_call_keeps_chain shape.origin shape.target (count_in shape) a.realm.slots c led.ran.wired (nodes-leave (count_in shape) c (own-nodes (count_in shape) c own))).short k l)
+    subst (λ q. IsShortOf (behind_at k q) (then_told (behind_at k a.core.realm.slots) (enters_in shape k c))) (sym slots)
+    ((each_call_keeps_chain shape.origin shape.target (count_in shape) a.core.realm.slots c led.ran.wired (nodes-leave (count_in shape) c (own-nodes (count_in shape) c own))).short k l)
 
-stops-spent : (n : Node) (why : Why) → Stops why n → (n.stopped ≡ Some Spent → n.realm.slots.age ≡ oldest) → Some why ≡ Some Spent → n.realm.slots.age ≡ oldest
+stops-spent : (n : Node) (why : Why) → Stops why n → (n.core.stopped ≡ Some Spent → n.core.realm.slots.age ≡ oldest) → Some why ≡ Some Spent → n.core.realm.slots.age ≡ oldest
 stops-spent n why (Before f) g e = g (f ∙ e)
 stops-spent n why (Wanting going f) g e = absurd (cc)
 stops-spent n why (IsSpent going is f) g e = f
 
-goes-spent : (n : Node) (P : Type 0) → n.stopped ≡ None → n.stopped ≡ Some Spent → P
+goes-spent : (n : Node) (P : Type 0) → n.core.stopped ≡ None → n.core.stopped ≡ Some Spent → P
 goes-spent n P goes e = absurd (cc)
 
 one_more : (n m : ℕ) → n ≡ m + 1 → n ≡ suc m
@@ -169,20 +169,20 @@ since-asks shape past a b c led may (Performed realm slots young goes is) =
       led = longer shape past (Called c) a realm led slots (young led.age) (goes-spent a (realm.slots.age ≡ oldest) goes) may.is_own
           (subst (All (IsCause a)) (sym (append-nil (failure_of c))) may.failed)
           (λ id e. may.closes id (same_call c (settles_well id) e)) (λ id i e. may.flushes id i (same_call c (settles_well id) e));
-      only = record { realm = realm; stopped = a.stopped; is = refl };
-      short = λ d k l. lying-both a.stopped _ _
-          (short-behind (behind_at k realm.slots) (behind_at k a.realm.slots) (enters_in shape k c) (d k) (call-short shape past a realm c led may.is_own slots k l));
+      only = record { realm = realm; stopped = a.core.stopped; is = refl };
+      short = λ d k l. lying-both a.core.stopped _ _
+          (short-behind (behind_at k realm.slots) (behind_at k a.core.realm.slots) (enters_in shape k c) (d k) (call-short shape past a realm c led may.is_own slots k l));
       one = λ m o. one-short m _ _ (call-short shape past a realm c led may.is_own slots 0 (omega arith)) o;
-      older = λ e. one_more realm.slots.age a.realm.slots.age (ap (λ (q : Slots). q.age) slots ∙ called-age c a.realm.slots);
+      older = λ e. one_more realm.slots.age a.core.realm.slots.age (ap (λ (q : Slots). q.age) slots ∙ called-age c a.core.realm.slots);
     })
 since-asks shape past a b c led may (Refused why stops is) =
     subst (AfterCall shape past c a) (sym is)
     (record {
       more = [];
-      led = subst (λ q. Led shape q (stopped_by why a)) (sym (append-nil past)) (led-stays shape past a a.realm (Some why) led refl (stops-spent a why stops led.spent));
-      only = record { realm = a.realm; stopped = Some why; is = refl };
+      led = subst (λ q. Led shape q (stopped_by why a)) (sym (append-nil past)) (led-stays shape past a a.core.realm (Some why) led refl (stops-spent a why stops led.spent));
+      only = record { realm = a.core.realm; stopped = Some why; is = refl };
       short = λ d k l. lost-short (lies (λ j. then_told (in_bytes (enters_in shape j c)) (d j)) a k);
-      one = λ m o. one-before m (behind_at 0 a.realm.slots) (enters_in shape 0 c) o;
+      one = λ m o. one-before m (behind_at 0 a.core.realm.slots) (enters_in shape 0 c) o;
       older = λ e. absurd (cc);
     })
 
@@ -192,16 +192,16 @@ pub dropped : (shape : Shape) (past : List Entry) (a b : Node) (m : ℕ) (piece 
 dropped shape past a b m piece less led (Performed realm slots young goes is) not_done d e =
     let k : ℕ = suc m in
     let c : Call = Enqueue (source_of k) (Bytes piece) in
-    let at = link-at shape.origin shape.target (count_in shape) a.realm.slots led.ran.wired k less in
-    let shut : (behind_at k a.realm.slots).mark ≢ MayCome =
-    behind-mark k a.realm.slots
-    (enqueue-shut (source_of k) (transform_of m) (Bytes piece) a.realm.slots at.link.source at.gives
-    (λ f. not_done (record { going = goes; done = f; goes_on = ap (λ (n : Node). n.stopped) is ∙ goes }))) in
-    let short : IsShortOf (behind_at k realm.slots) (behind_at k a.realm.slots) =
-    short_as (behind_at k realm.slots) (then_told (behind_at k a.realm.slots) (enters_in shape k c)) _ (nothing-follows (behind_at k a.realm.slots) (enters_in shape k c) shut)
+    let at = link-at shape.origin shape.target (count_in shape) a.core.realm.slots led.ran.wired k less in
+    let shut : (behind_at k a.core.realm.slots).mark ≢ MayCome =
+    behind-mark k a.core.realm.slots
+    (enqueue-shut (source_of k) (transform_of m) (Bytes piece) a.core.realm.slots at.link.source at.gives
+    (λ f. not_done (record { going = goes; done = f; goes_on = ap (λ (n : Node). n.core.stopped) is ∙ goes }))) in
+    let short : IsShortOf (behind_at k realm.slots) (behind_at k a.core.realm.slots) =
+    short_as (behind_at k realm.slots) (then_told (behind_at k a.core.realm.slots) (enters_in shape k c)) _ (nothing-follows (behind_at k a.core.realm.slots) (enters_in shape k c) shut)
     (call-short shape past a realm c led tt slots k less) in
     subst (λ (n : Node). IsShortOf (lies d n k) (lies e a k)) (sym is)
-    (lying-both a.stopped _ _ (short-ended (behind_at k realm.slots) (behind_at k a.realm.slots) (d k) (e k) shut short))
+    (lying-both a.core.stopped _ _ (short-ended (behind_at k realm.slots) (behind_at k a.core.realm.slots) (d k) (e k) shut short))
 dropped shape past a b m piece less led (Refused why stops is) not_done d e =
     subst (λ (n : Node). IsShortOf (lies d n (suc m)) (lies e a (suc m))) (sym is) (lost-short (lies e a (suc m)))
 
@@ -211,8 +211,8 @@ pub record AfterJobs (shape : Shape) (past : List Entry) (a b : Node) : Type 0 w
   pub led : Led shape (past ++ more) b
   pub only : OnlyRealm a b
   pub short : (k : ℕ) → k ≤ count_in shape → IsShortOf (lies_in b k) (lies_in a k)
-  pub one : (m : ℕ) → OneAtMost m (behind_at 0 a.realm.slots).items → OneAtMost m (behind_at 0 b.realm.slots).items
-  pub older : a.realm.slots.age ≤ b.realm.slots.age
+  pub one : (m : ℕ) → OneAtMost m (behind_at 0 a.core.realm.slots).items → OneAtMost m (behind_at 0 b.core.realm.slots).items
+  pub older : a.core.realm.slots.age ≤ b.core.realm.slots.age
 
 -- what comes behind a stage that ended fine is the end
 coming-fine : (k : ℕ) (ws : List State) → suc k ≤ length ws
@@ -221,54 +221,54 @@ coming-fine k [] l h = grind (arith, l)
 coming-fine zero (w ∷ ws) l h = ap coming_from (h [] ws w refl refl)
 coming-fine (suc k) (w ∷ ws) l h = coming-fine k ws (omega (arith, l)) (λ first last v e g. h (w ∷ first) last v (ap (λ q. w ∷ q) e) (ap suc g))
 
-pub stages-count : (shape : Shape) (past : List Entry) (a : Node) → Led shape past a → length a.stages.items ≡ count_in shape
-stages-count shape past a led = sym (length-map a.stages.items (λ w. w.stage)) ∙ ap length led.is_of.stages
+pub stages-count : (shape : Shape) (past : List Entry) (a : Node) → Led shape past a → length a.core.stages.items ≡ count_in shape
+stages-count shape past a led = sym (length-map a.core.stages.items (λ w. w.stage)) ∙ ap length led.is_of.stages
 
 job-brings : (shape : Shape) (past : List Entry) (a : Node) → Led shape past a → JobBrings (count_in shape) past
 job-brings shape past a led = each_end_was_flushed shape.origin shape.target (count_in shape) past (subst (IsChain shape.origin shape.target (count_in shape)) led.ran.slots led.ran.wired)
 
 -- a job brings nothing but an end that comes anyway
 brought : (shape : Shape) (past : List Entry) (a : Node) → Led shape past a → (k : ℕ) → k ≤ count_in shape
-    → then_told (in_bytes (next_enters k (next_job a.realm.slots.promises))) (coming a k) ≡ coming a k
+    → then_told (in_bytes (next_enters k (next_job a.core.realm.slots.promises))) (coming a k) ≡ coming a k
 brought shape past a led k l = by-link k l
   where
     brings : JobBrings (count_in shape) past
     brings = job-brings shape past a led
 
-    as-past : (k : ℕ) → next_enters k (next_job a.realm.slots.promises) ≡ next_enters k (next_job (run past empty).promises)
+    as-past : (k : ℕ) → next_enters k (next_job a.core.realm.slots.promises) ≡ next_enters k (next_job (run past empty).promises)
     as-past k = ap (λ (q : Slots). next_enters k (next_job q.promises)) led.ran.slots
 
     by-half : (k : ℕ) → suc k ≤ count_in shape → Flushes k past
-        → then_told (in_bytes (next_enters (suc k) (next_job a.realm.slots.promises))) (coming a (suc k)) ≡ coming a (suc k)
+        → then_told (in_bytes (next_enters (suc k) (next_job a.core.realm.slots.promises))) (coming a (suc k)) ≡ coming a (suc k)
     by-half k l (BringsNothing e) = ap (λ q. then_told (in_bytes q) (coming a (suc k))) (as-past (suc k) ∙ e)
     by-half k l (BringsTheEnd e w) =
         ap (λ q. then_told (in_bytes q) (coming a (suc k))) (as-past (suc k) ∙ e)
-        ∙ sym (coming-fine k a.stages.items (subst (λ q. suc k ≤ q) (sym (stages-count shape past a led)) l)
+        ∙ sym (coming-fine k a.core.stages.items (subst (λ q. suc k ≤ q) (sym (stages-count shape past a led)) l)
         (λ first last v f g. led.flushes w.before w.after w.id (source_of (suc k)) w.settles w.called first last v
         (record { whole = f; place = ap (λ q. source_of (suc q)) (sym g) })))
 
-    by-link : (k : ℕ) → k ≤ count_in shape → then_told (in_bytes (next_enters k (next_job a.realm.slots.promises))) (coming a k) ≡ coming a k
+    by-link : (k : ℕ) → k ≤ count_in shape → then_told (in_bytes (next_enters k (next_job a.core.realm.slots.promises))) (coming a k) ≡ coming a k
     by-link zero l = ap (λ q. then_told (in_bytes q) (coming a 0)) (as-past 0 ∙ brings.source)
     by-link (suc k) l = by-half k l (brings.half k l)
 
 -- nothing is brought to the source
 job-source : (shape : Shape) (past : List Entry) (a : Node) → Led shape past a
-    → KeepsBehind shape.origin shape.target (count_in shape) a.realm.slots (after_job a.realm.slots) (λ k. next_enters k (next_job a.realm.slots.promises))
-    → IsShortOf (behind_at 0 (after_job a.realm.slots)) (behind_at 0 a.realm.slots)
+    → KeepsBehind shape.origin shape.target (count_in shape) a.core.realm.slots (after_job a.core.realm.slots) (λ k. next_enters k (next_job a.core.realm.slots.promises))
+    → IsShortOf (behind_at 0 (after_job a.core.realm.slots)) (behind_at 0 a.core.realm.slots)
 job-source shape past a led keeps =
     let brings = job-brings shape past a led in
-    let none : next_enters 0 (next_job a.realm.slots.promises) ≡ silence = ap (λ (q : Slots). next_enters 0 (next_job q.promises)) led.ran.slots ∙ brings.source in
-    short_as (behind_at 0 (after_job a.realm.slots)) (then_told (behind_at 0 a.realm.slots) (next_enters 0 (next_job a.realm.slots.promises))) _
-    (ap (then_told (behind_at 0 a.realm.slots)) none ∙ then_empty (behind_at 0 a.realm.slots)) (keeps.short 0 (omega arith))
+    let none : next_enters 0 (next_job a.core.realm.slots.promises) ≡ silence = ap (λ (q : Slots). next_enters 0 (next_job q.promises)) led.ran.slots ∙ brings.source in
+    short_as (behind_at 0 (after_job a.core.realm.slots)) (then_told (behind_at 0 a.core.realm.slots) (next_enters 0 (next_job a.core.realm.slots.promises))) _
+    (ap (then_told (behind_at 0 a.core.realm.slots)) none ∙ then_empty (behind_at 0 a.core.realm.slots)) (keeps.short 0 (omega arith))
 
 -- what lies on each link after one job
 job-short : (shape : Shape) (past : List Entry) (a : Node) → Led shape past a
-    → KeepsBehind shape.origin shape.target (count_in shape) a.realm.slots (after_job a.realm.slots) (λ k. next_enters k (next_job a.realm.slots.promises)) → (k : ℕ) → k ≤ count_in shape
-    → IsShortOf (then_told (in_bytes (behind_at k (after_job a.realm.slots))) (coming a k)) (then_told (in_bytes (behind_at k a.realm.slots)) (coming a k))
+    → KeepsBehind shape.origin shape.target (count_in shape) a.core.realm.slots (after_job a.core.realm.slots) (λ k. next_enters k (next_job a.core.realm.slots.promises)) → (k : ℕ) → k ≤ count_in shape
+    → IsShortOf (then_told (in_bytes (behind_at k (after_job a.core.realm.slots))) (coming a k)) (then_told (in_bytes (behind_at k a.core.realm.slots)) (coming a k))
 job-short shape past a led keeps k l =
-    let now : Told Value = behind_at k (after_job a.realm.slots) in
-    let before : Told Value = behind_at k a.realm.slots in
-    let enters : Told Value = next_enters k (next_job a.realm.slots.promises) in
+    let now : Told Value = behind_at k (after_job a.core.realm.slots) in
+    let before : Told Value = behind_at k a.core.realm.slots in
+    let enters : Told Value = next_enters k (next_job a.core.realm.slots.promises) in
     short_as (then_told (in_bytes now) (coming a k)) (then_told (in_bytes before) (then_told (in_bytes enters) (coming a k))) (then_told (in_bytes before) (coming a k))
     (ap (then_told (in_bytes before)) (brought shape past a led k l)) (short-behind now before enters (coming a k) (keeps.short k l))
 
@@ -277,8 +277,8 @@ record JobsGo (shape : Shape) (past : List Entry) (a : Node) (realm : SeenRealm)
   more : List Entry
   led : Led shape (past ++ more) (with_realm realm a)
   short : (k : ℕ) → k ≤ count_in shape
-      → IsShortOf (then_told (in_bytes (behind_at k realm.slots)) (coming a k)) (then_told (in_bytes (behind_at k a.realm.slots)) (coming a k))
-  one : (m : ℕ) → OneAtMost m (behind_at 0 a.realm.slots).items → OneAtMost m (behind_at 0 realm.slots).items
+      → IsShortOf (then_told (in_bytes (behind_at k realm.slots)) (coming a k)) (then_told (in_bytes (behind_at k a.core.realm.slots)) (coming a k))
+  one : (m : ℕ) → OneAtMost m (behind_at 0 a.core.realm.slots).items → OneAtMost m (behind_at 0 realm.slots).items
 
 led-after : (shape : Shape) (past more : List Entry) (x : Entry) (n : Node) → Led shape ((past ++ x ∷ []) ++ more) n → Led shape (past ++ x ∷ more) n
 led-after shape past more x n = subst (λ q. Led shape q n) (append_assoc past (x ∷ []) more)
@@ -286,18 +286,18 @@ led-after shape past more x n = subst (λ q. Led shape q n) (append_assoc past (
 run-older : (xs : List Entry) (s z : Slots) → z ≡ run xs s → s.age ≤ z.age
 run-older xs s z e = let a : z.age ≡ s.age + performed_in xs = ap (λ (q : Slots). q.age) e ∙ each_age_counts s xs in omega (arith, a)
 
-jobs-go : (n : ℕ) (shape : Shape) (past : List Entry) (a : Node) (realm : SeenRealm) → a.stopped ≡ None → Led shape past a → realm.slots ≡ run (jobs_in_a_row n) a.realm.slots
+jobs-go : (n : ℕ) (shape : Shape) (past : List Entry) (a : Node) (realm : SeenRealm) → a.core.stopped ≡ None → Led shape past a → realm.slots ≡ run (jobs_in_a_row n) a.core.realm.slots
     → realm.slots.age ≤ oldest → JobsGo shape past a realm
 jobs-go zero shape past a realm goes led e young = record {
   more = [];
-  led = subst (λ q. Led shape q (with_realm realm a)) (sym (append-nil past)) (led-stays shape past a realm a.stopped led e (goes-spent a (a.realm.slots.age ≡ oldest) goes));
-  short = λ k l. subst (λ q. IsShortOf (then_told (in_bytes (behind_at k q)) (coming a k)) (then_told (in_bytes (behind_at k a.realm.slots)) (coming a k))) (sym e)
+  led = subst (λ q. Led shape q (with_realm realm a)) (sym (append-nil past)) (led-stays shape past a realm a.core.stopped led e (goes-spent a (a.core.realm.slots.age ≡ oldest) goes));
+  short = λ k l. subst (λ q. IsShortOf (then_told (in_bytes (behind_at k q)) (coming a k)) (then_told (in_bytes (behind_at k a.core.realm.slots)) (coming a k))) (sym e)
       (short_refl _);
   one = λ m o. subst (λ q. OneAtMost m (behind_at 0 q).items) (sym e) o;
 }
 jobs-go (suc n) shape past a realm goes led e young =
-    let mid : SeenRealm = record { slots = after_job a.realm.slots; prepared = a.realm.prepared } in
-    let keeps = each_job_keeps_chain shape.origin shape.target (count_in shape) a.realm.slots led.ran.wired in
+    let mid : SeenRealm = record { slots = after_job a.core.realm.slots; prepared = a.core.realm.prepared } in
+    let keeps = each_job_keeps_chain shape.origin shape.target (count_in shape) a.core.realm.slots led.ran.wired in
     let older : mid.slots.age ≤ realm.slots.age = run-older (jobs_in_a_row n) mid.slots realm.slots e in
     let first : Led shape (past ++ Worked ∷ []) (with_realm mid a) =
     longer shape past Worked a mid led refl (omega (arith, older, young)) (goes-spent a (mid.slots.age ≡ oldest) goes) tt (All-nil (IsCause a)) (λ id f. cc) (λ id i f. cc) in
@@ -306,16 +306,16 @@ jobs-go (suc n) shape past a realm goes led e young =
       more = Worked ∷ rest.more;
       led = led-after shape past rest.more Worked (with_realm realm a) rest.led;
       short = λ k l. short_trans _ _ _ (rest.short k l) (job-short shape past a led keeps k l);
-      one = λ m o. rest.one m (one-short m (behind_at 0 mid.slots) (behind_at 0 a.realm.slots) (job-source shape past a led keeps) o);
+      one = λ m o. rest.one m (one-short m (behind_at 0 mid.slots) (behind_at 0 a.core.realm.slots) (job-source shape past a led keeps) o);
     }
 
-works-by : (shape : Shape) (past : List Entry) (a b : Node) → Led shape past a → Works a b → (why : Option Why) → a.stopped ≡ why → AfterJobs shape past a b
+works-by : (shape : Shape) (past : List Entry) (a b : Node) → Led shape past a → Works a b → (why : Option Why) → a.core.stopped ≡ why → AfterJobs shape past a b
 works-by shape past a b led w (Some why) e =
     subst (AfterJobs shape past a) (sym (w.stays why e))
     (record {
       more = [];
       led = subst (λ q. Led shape q a) (sym (append-nil past)) led;
-      only = record { realm = a.realm; stopped = a.stopped; is = refl };
+      only = record { realm = a.core.realm; stopped = a.core.stopped; is = refl };
       short = λ k l. short_refl (lies_in a k);
       one = λ m o. o;
       older = omega arith;
@@ -327,34 +327,34 @@ works-by shape past a b led w None e =
       more = went.more;
       led = led-stays shape (past ++ went.more) (with_realm w.realm a) w.realm w.stopped went.led refl (w.spent e);
       only = record { realm = w.realm; stopped = w.stopped; is = refl };
-      short = λ k l. lying-since a.stopped w.stopped _ _ e (went.short k l);
+      short = λ k l. lying-since a.core.stopped w.stopped _ _ e (went.short k l);
       one = went.one;
-      older = run-older (jobs_in_a_row w.jobs) a.realm.slots w.realm.slots w.slots;
+      older = run-older (jobs_in_a_row w.jobs) a.core.realm.slots w.realm.slots w.slots;
     })
 
 pub since-works : (shape : Shape) (past : List Entry) (a b : Node) → Led shape past a → Works a b → AfterJobs shape past a b
-since-works shape past a b led works = works-by shape past a b led works a.stopped refl
+since-works shape past a b led works = works-by shape past a b led works a.core.stopped refl
 
 -- after an event, which is a call of the number that it tells
 pub record AfterEvent (shape : Shape) (past : List Entry) (a : Node) (realm : SeenRealm) (e : Event) : Type 0 where
   pub led : Led shape (past ++ Heard ∷ []) (with_realm realm a)
-  pub short : (k : ℕ) → k ≤ count_in shape → IsShortOf (then_told (hears_in shape k e) (behind_at k realm.slots)) (behind_at k a.realm.slots)
+  pub short : (k : ℕ) → k ≤ count_in shape → IsShortOf (then_told (hears_in shape k e) (behind_at k realm.slots)) (behind_at k a.core.realm.slots)
   pub its : IsItsCall (called (past ++ Heard ∷ [])) e
-  pub age : realm.slots.age ≡ a.realm.slots.age
+  pub age : realm.slots.age ≡ a.core.realm.slots.age
 
 -- the past is longer by an event
-heard-led : (shape : Shape) (past : List Entry) (a : Node) (realm : SeenRealm) → Led shape past a → realm.slots ≡ after_event a.realm.slots → Led shape (past ++ Heard ∷ []) (with_realm realm a)
+heard-led : (shape : Shape) (past : List Entry) (a : Node) (realm : SeenRealm) → Led shape past a → realm.slots ≡ after_event a.core.realm.slots → Led shape (past ++ Heard ∷ []) (with_realm realm a)
 heard-led shape past a realm led slots =
-    let age : realm.slots.age ≡ a.realm.slots.age = ap (λ (q : Slots). q.age) slots in
+    let age : realm.slots.age ≡ a.core.realm.slots.age = ap (λ (q : Slots). q.age) slots in
     longer shape past Heard a realm led slots (subst (λ q. q ≤ oldest) (sym age) led.age) (λ e. age ∙ led.spent e) tt (All-nil (IsCause a)) (λ id f. cc) (λ id i f. cc)
 
-heard-short : (shape : Shape) (past : List Entry) (a : Node) (realm : SeenRealm) (o : Option Event) → Led shape past a → first_event a.realm.slots.promises.events ≡ o
-    → realm.slots ≡ after_event a.realm.slots → (k : ℕ) → k ≤ count_in shape
-    → IsShortOf (then_told (next_heard shape.origin shape.target (count_in shape) k o) (behind_at k realm.slots)) (behind_at k a.realm.slots)
+heard-short : (shape : Shape) (past : List Entry) (a : Node) (realm : SeenRealm) (o : Option Event) → Led shape past a → first_event a.core.realm.slots.promises.events ≡ o
+    → realm.slots ≡ after_event a.core.realm.slots → (k : ℕ) → k ≤ count_in shape
+    → IsShortOf (then_told (next_heard shape.origin shape.target (count_in shape) k o) (behind_at k realm.slots)) (behind_at k a.core.realm.slots)
 heard-short shape past a realm o led first slots k l =
-    subst (λ q. IsShortOf (then_told (next_heard shape.origin shape.target (count_in shape) k o) (behind_at k q)) (behind_at k a.realm.slots)) (sym slots)
-    (subst (λ q. IsShortOf (then_told (next_heard shape.origin shape.target (count_in shape) k q) (behind_at k (after_event a.realm.slots))) (behind_at k a.realm.slots)) first
-    ((each_event_keeps_chain shape.origin shape.target (count_in shape) a.realm.slots led.ran.wired).short k l))
+    subst (λ q. IsShortOf (then_told (next_heard shape.origin shape.target (count_in shape) k o) (behind_at k q)) (behind_at k a.core.realm.slots)) (sym slots)
+    (subst (λ q. IsShortOf (then_told (next_heard shape.origin shape.target (count_in shape) k q) (behind_at k (after_event a.core.realm.slots))) (behind_at k a.core.realm.slots)) first
+    ((each_event_keeps_chain shape.origin shape.target (count_in shape) a.core.realm.slots led.ran.wired).short k l))
 
 same_some : {A : Type 0} (x y : A) → Some x ≡ Some y → x ≡ y
 same_some x y e = grind arith
@@ -369,13 +369,13 @@ first-event : (calls : List HostCall) (es : List Event) (e : Event) → first_ev
 first-event calls [] e f a = absurd (cc)
 first-event calls (x ∷ es) e f a = subst (IsItsCall calls) (same_some x e f) a.0
 
-pub since-hears : (shape : Shape) (past : List Entry) (a : Node) (realm : SeenRealm) (e : Event) → Led shape past a → a.stopped ≡ None → first_event a.realm.slots.promises.events ≡ Some e
-    → realm.slots ≡ after_event a.realm.slots → AfterEvent shape past a realm e
+pub since-hears : (shape : Shape) (past : List Entry) (a : Node) (realm : SeenRealm) (e : Event) → Led shape past a → a.core.stopped ≡ None → first_event a.core.realm.slots.promises.events ≡ Some e
+    → realm.slots ≡ after_event a.core.realm.slots → AfterEvent shape past a realm e
 since-hears shape past a realm e led goes first slots =
     record {
       led = heard-led shape past a realm led slots;
       short = heard-short shape past a realm (Some e) led first slots;
-      its = call-longer past (Heard ∷ []) e (first-event (called past) a.realm.slots.promises.events e first
+      its = call-longer past (Heard ∷ []) e (first-event (called past) a.core.realm.slots.promises.events e first
           (subst (λ (q : Slots). AllEvents (IsItsCall (called past)) q.promises.events) (sym led.ran.slots) (each_event_is_its_call past).untaken));
       age = ap (λ (q : Slots). q.age) slots;
     }
@@ -383,10 +383,10 @@ since-hears shape past a realm e led goes first slots =
 -- where there is no event
 pub record AfterNone (shape : Shape) (past : List Entry) (a : Node) (realm : SeenRealm) : Type 0 where
   pub led : Led shape (past ++ Heard ∷ []) (with_realm realm a)
-  pub short : (k : ℕ) → k ≤ count_in shape → IsShortOf (behind_at k realm.slots) (behind_at k a.realm.slots)
-  pub age : realm.slots.age ≡ a.realm.slots.age
+  pub short : (k : ℕ) → k ≤ count_in shape → IsShortOf (behind_at k realm.slots) (behind_at k a.core.realm.slots)
+  pub age : realm.slots.age ≡ a.core.realm.slots.age
 
-pub since-hears-none : (shape : Shape) (past : List Entry) (a : Node) (realm : SeenRealm) → Led shape past a → first_event a.realm.slots.promises.events ≡ None
-    → realm.slots ≡ after_event a.realm.slots → AfterNone shape past a realm
+pub since-hears-none : (shape : Shape) (past : List Entry) (a : Node) (realm : SeenRealm) → Led shape past a → first_event a.core.realm.slots.promises.events ≡ None
+    → realm.slots ≡ after_event a.core.realm.slots → AfterNone shape past a realm
 since-hears-none shape past a realm led first slots =
     record { led = heard-led shape past a realm led slots; short = heard-short shape past a realm None led first slots; age = ap (λ (q : Slots). q.age) slots }

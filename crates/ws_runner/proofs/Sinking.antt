@@ -132,24 +132,24 @@ all-last P (x ∷ xs) ys h = all-last P xs ys (All-tail P x (xs ++ ys) h)
 then_items : (x y : Told (List ℕ)) → x.mark ≡ MayCome → (then_told x y).items ≡ x.items ++ y.items
 then_items x y e = grind arith
 
-module _ (shape : Shape) (past : List Entry) (a : Node) (realm : SeenRealm) (since : Since shape past a) (goes : a.stopped ≡ None) where
+module _ (shape : Shape) (past : List Entry) (a : Node) (realm : SeenRealm) (since : Since shape past a) (goes : a.core.stopped ≡ None) where
   abbrev was : Node
   was = with_realm realm a
 
-  pub count-works : 0 + length (works_in a) ≡ count_in shape
+  pub count-works : 0 + length (works_in a.core) ≡ count_in shape
   count-works =
-      let e = length-map a.stages.items (λ (w : State). w.work) in
-      let f = length-map a.stages.items (λ (w : State). w.stage) in
-      let g : length (stages_in a) ≡ count_in shape = ap length since.led.is_of.stages in
+      let e = length-map a.core.stages.items (λ (w : State). w.work) in
+      let f = length-map a.core.stages.items (λ (w : State). w.stage) in
+      let g : length (stages_in a.core) ≡ count_in shape = ap length since.led.is_of.stages in
       omega arith
 
   -- the link that goes to the sink is the last
   module _ (sink_link : ℕ) (is_last : sink_link ≡ count_in shape) where
     lying-is : lying a ≡ lies_in a sink_link
-    lying-is = behind_is 0 (works_in a) (lies_in a) ∙ ap (lies_in a) (count-works ∙ sym is_last)
+    lying-is = behind_is 0 (works_in a.core) (lies_in a) ∙ ap (lies_in a) (count-works ∙ sym is_last)
 
     -- the chunk that lies first before the sink is below 2^25 bytes
-    pub piece-short : (piece : List ℕ) (y : Told (List ℕ)) → a.output ≡ output.Open → IsShortOf (then_told (told (piece ∷ []) MayCome) y) (lies_in a sink_link) → length piece < 2 ^ 25
+    pub piece-short : (piece : List ℕ) (y : Told (List ℕ)) → a.exit.output ≡ output.Open → IsShortOf (then_told (told (piece ∷ []) MayCome) y) (lies_in a sink_link) → length piece < 2 ^ 25
     piece-short piece y is short =
         let fit = since.led.is_of.fit in
         let fed = since.fed in
@@ -173,18 +173,18 @@ module _ (shape : Shape) (past : List Entry) (a : Node) (realm : SeenRealm) (sin
           unheard-lies shape past a realm (Host id call) event goes x k (omega arith) (ap in_bytes (heard k (omega arith) ∙ at-elsewhere sink_link k t (λ e. omega arith)))
 
       -- where there are stages, the first link isn't the last
-      pub one-stages : (b : Node) (u : State) (us : List State) → a.stages.items ≡ u ∷ us → b.stages.items ≡ u ∷ us → b.ahead ≡ a.ahead
-          → ((n : ℕ) → OneAtMost n (behind_at 0 realm.slots).items → OneAtMost n (behind_at 0 b.realm.slots).items) → HasOne b
+      pub one-stages : (b : Node) (u : State) (us : List State) → a.core.stages.items ≡ u ∷ us → b.core.stages.items ≡ u ∷ us → b.entrance.ahead ≡ a.entrance.ahead
+          → ((n : ℕ) → OneAtMost n (behind_at 0 realm.slots).items → OneAtMost n (behind_at 0 b.core.realm.slots).items) → HasOne b
       one-stages b u us whole is ahead less =
-          let some : 0 ≢ sink_link = λ e. let f = count-works in let g = length-map a.stages.items (λ (w : State). w.work) in let h : length a.stages.items ≡ suc (length us) = ap length whole in omega arith in
+          let some : 0 ≢ sink_link = λ e. let f = count-works in let g = length-map a.core.stages.items (λ (w : State). w.work) in let h : length a.core.stages.items ≡ suc (length us) = ap length whole in omega arith in
           one-behind u us us a b since.one whole is ahead
-          (λ n o. less n (one-quiet n (hears_in shape 0 (Host id call)) (behind_at 0 realm.slots) (behind_at 0 a.realm.slots)
+          (λ n o. less n (one-quiet n (hears_in shape 0 (Host id call)) (behind_at 0 realm.slots) (behind_at 0 a.core.realm.slots)
           (heard 0 (omega arith) ∙ at-elsewhere sink_link 0 t some) (event.short 0 (omega arith)) o))
 
       -- a node whose host has done its part, and its realm after that
-      module _ (b : Node) (k : ℕ) (x : Option Abort) (o : Output) (after : AfterQuiet shape (past ++ Heard ∷ []) (record was { ahead = k; abort = x; output = o }) b)
+      module _ (b : Node) (k : ℕ) (x : Option Abort) (o : Output) (after : AfterQuiet shape (past ++ Heard ∷ []) (record was { entrance = record was.entrance { ahead = k }; exit = record was.exit { abort = x; output = o } }) b)
           (went : Told (List ℕ)) (there : (z : Told (List ℕ)) → IsShortOf (then_told went (lies_to z was sink_link)) (lies_to z a sink_link)) where
-        b-is : b ≡ record a { realm = after.only.realm; stopped = after.only.stopped; ahead = k; abort = x; output = o }
+        b-is : b ≡ record a { core = record a.core { realm = after.only.realm; stopped = after.only.stopped }; entrance = record a.entrance { ahead = k }; exit = record a.exit { abort = x; output = o } }
         b-is = after.only.is
 
         lies-before : (j : ℕ) → j < sink_link → IsShortOf (lies_in b j) (lies_in a j)
@@ -198,31 +198,31 @@ module _ (shape : Shape) (past : List Entry) (a : Node) (realm : SeenRealm) (sin
             subst (λ (z : Told (List ℕ)). IsShortOf (then_told went (lies_to z b n)) (lies_in a n)) (sym (ap (λ (m : Node). coming m n) b-is))
             (short_trans _ _ _ (short_left went (lies_to (coming a n) b n) (lies_to (coming a n) was n) (after.lies (coming a n) n (omega arith))) (there (coming a n)))
 
-        goes-out : Goes (machines (stages_in a)) nothing_yet (parts a) (lying a) (parts b) (then_told went (lying b))
+        goes-out : Goes (machines (stages_in a.core)) nothing_yet (parts a) (lying a) (parts b) (then_told went (lying b))
         goes-out =
-            let same : works_in b ≡ works_in a = ap works_in b-is in
-            let last : IsShortOf (then_told went (lies_in b (0 + length (works_in a)))) (lies_in a (0 + length (works_in a))) =
+            let same : works_in b.core ≡ works_in a.core = ap (λ (q : Node). works_in q.core) b-is in
+            let last : IsShortOf (then_told went (lies_in b (0 + length (works_in a.core)))) (lies_in a (0 + length (works_in a.core))) =
             subst (λ (n : ℕ). IsShortOf (then_told went (lies_in b n)) (lies_in a n)) (is_last ∙ sym count-works) lies-last in
-            subst (λ (ws : List AtWork). Goes (machines (stages_in a)) nothing_yet (parts a) (lying a) (parts_at 0 ws (lies_in b)) (then_told went (behind_of 0 ws (lies_in b)))) (sym same)
-            (goes_out (machines (stages_in a)) 0 (works_in a) (lies_in a) (lies_in b) went (same-length a.stages.items)
+            subst (λ (ws : List AtWork). Goes (machines (stages_in a.core)) nothing_yet (parts a) (lying a) (parts_at 0 ws (lies_in b)) (then_told went (behind_of 0 ws (lies_in b)))) (sym same)
+            (goes_out (machines (stages_in a.core)) 0 (works_in a.core) (lies_in a) (lies_in b) went (same-length a.core.stages.items)
             (λ j p less. lies-before j (let e = count-works in omega arith)) last)
 
         pub sunk : (rf : ℕ) (feed : Option Feed) (old new : Shown) (p q : List ℕ → Type 0) (gain : List ℕ) (out : Mark) → Gains p q gain → IsShortOf (told gain out) (bytes_of went)
-            → (a.stages.items ≡ [] → a.ahead ≤ length gain + k) → OutputGoes a.output o gain out (shows rf feed old) (shows rf feed new) → AbortGoes a.abort x went.items gain o → HasOne b
+            → (a.core.stages.items ≡ [] → a.entrance.ahead ≤ length gain + k) → OutputGoes a.exit.output o gain out (shows rf feed old) (shows rf feed new) → AbortGoes a.exit.abort x went.items gain o → HasOne b
             → Handled shape a b (shows rf feed old) (shows rf feed new) p q
         sunk rf feed old new p q gain out gained written ahead out_goes abort one =
-            let taken : b.taken ≡ a.taken = ap (λ (n : Node). n.taken) b-is in
-            let k_is : b.ahead ≡ k = ap (λ (n : Node). n.ahead) b-is in
-            let x_is : b.abort ≡ x = ap (λ (n : Node). n.abort) b-is in
-            let o_is : b.output ≡ o = ap (λ (n : Node). n.output) b-is in
-            let i_is : b.input ≡ a.input = ap (λ (n : Node). n.input) b-is in
+            let taken : b.entrance.taken ≡ a.entrance.taken = ap (λ (n : Node). n.entrance.taken) b-is in
+            let k_is : b.entrance.ahead ≡ k = ap (λ (n : Node). n.entrance.ahead) b-is in
+            let x_is : b.exit.abort ≡ x = ap (λ (n : Node). n.exit.abort) b-is in
+            let o_is : b.exit.output ≡ o = ap (λ (n : Node). n.exit.output) b-is in
+            let i_is : b.entrance.input ≡ a.entrance.input = ap (λ (n : Node). n.entrance.input) b-is in
             record {
               past = (past ++ Heard ∷ []) ++ after.more;
               led = after.led;
               pushes = λ e.
                   let f = after.older e in
                   let g = event.age in
-                  subst (ArePushed b.realm.slots.age) (sym (ap (λ (n : Node). n.stages.items) b-is)) (all-more a.realm.slots.age b.realm.slots.age a.stages.items (omega arith) (since.pushes goes));
+                  subst (ArePushed b.core.realm.slots.age) (sym (ap (λ (n : Node). n.core.stages.items) b-is)) (all-more a.core.realm.slots.age b.core.realm.slots.age a.core.stages.items (omega arith) (since.pushes goes));
               one = one;
               went = record {
                 read = nothing_yet;
@@ -230,24 +230,24 @@ module _ (shape : Shape) (past : List Entry) (a : Node) (realm : SeenRealm) (sin
                 gain = gain;
                 out = out;
                 core = record {
-                  moves = (record { stages = ap stages_in b-is; goes = goes-out }, tt);
-                  pipe = ap (λ (n : Node). n.pipe) b-is;
-                  pipes = ap (λ (n : Node). n.pipes_before) b-is;
+                  moves = (record { stages = ap (λ (q : Node). stages_in q.core) b-is; goes = goes-out }, tt);
+                  pipe = ap (λ (n : Node). n.core.pipe) b-is;
+                  pipes = ap (λ (n : Node). n.core.pipes_before) b-is;
                 };
                 from = record {
                   fed = Fed-nothing feed;
                   short = All-nil (λ c. length c ≤ 4096);
                   counted = omega arith;
-                  input = subst (λ (i : Input). InputGoes a.input i nothing_yet (shows rf feed old) (shows rf feed new)) (sym i_is) (input-calm a.input rf feed old new);
-                  source = ap (λ (n : Node). n.source) b-is;
-                  most = ap (λ (n : Node). n.most) b-is;
+                  input = subst (λ (i : Input). InputGoes a.entrance.input i nothing_yet (shows rf feed old) (shows rf feed new)) (sym i_is) (input-calm a.entrance.input rf feed old new);
+                  source = ap (λ (n : Node). n.entrance.source) b-is;
+                  most = ap (λ (n : Node). n.entrance.most) b-is;
                 };
                 into = record {
                   gained = gained;
                   written = written;
-                  output = subst (λ (z : Output). OutputGoes a.output z gain out (shows rf feed old) (shows rf feed new)) (sym o_is) out_goes;
-                  abort = subst (λ (z : Option Abort). AbortGoes a.abort z went.items gain b.output) (sym x_is) (subst (λ (z : Output). AbortGoes a.abort x went.items gain z) (sym o_is) abort);
-                  sink = ap (λ (n : Node). n.sink) b-is;
+                  output = subst (λ (z : Output). OutputGoes a.exit.output z gain out (shows rf feed old) (shows rf feed new)) (sym o_is) out_goes;
+                  abort = subst (λ (z : Option Abort). AbortGoes a.exit.abort z went.items gain b.exit.output) (sym x_is) (subst (λ (z : Output). AbortGoes a.exit.abort x went.items gain z) (sym o_is) abort);
+                  sink = ap (λ (n : Node). n.exit.sink) b-is;
                 };
                 ahead = λ none. let f = ahead none in omega arith;
                 stays = going-acts a b (shows rf feed old) (shows rf feed new) nothing_yet gain goes;

@@ -63,17 +63,17 @@ out-unlost output.Aborted b gain out m₀ m₁ e f g h = absurd (cc)
 
 module _ (n : Node) (driven : Driven n) (sound : IsSoundNode n) where
   abbrev count : ℕ
-  count = length n.stages.items
+  count = length n.core.stages.items
 
   length-map : {A : Type 0} {B : Type 0} (f : A → B) (xs : List A) → length (map f xs) ≡ length xs
   length-map f [] = refl
   length-map f (x ∷ xs) = ap suc (length-map f xs)
 
   few : count ≡ count_in driven.shape
-  few = sym (length-map (λ (w : State). w.stage) n.stages.items) ∙ ap length driven.since.led.is_of.stages
+  few = sym (length-map (λ (w : State). w.stage) n.core.stages.items) ∙ ap length driven.since.led.is_of.stages
 
   -- no pipe prevents the close, since none did as the realm was opened
-  link-sound : (k : ℕ) → k ≤ count → IsSound (source_of k) (dest_of k) (link_of k) n.realm.slots
+  link-sound : (k : ℕ) → k ≤ count → IsSound (source_of k) (dest_of k) (link_of k) n.core.realm.slots
   link-sound k l =
       let same = few in
       let led = driven.since.led in
@@ -81,24 +81,24 @@ module _ (n : Node) (driven : Driven n) (sound : IsSoundNode n) where
       record {
         source = u.source;
         sink = u.sink;
-        closes = closes-all driven.shape driven.past n.realm.slots led.ran led.is_of.fit k (omega arith);
+        closes = closes-all driven.shape driven.past n.core.realm.slots led.ran led.is_of.fit k (omega arith);
         error = u.error;
       }
 
-  behind-whole : (k : ℕ) → k ≤ count → (behind_at k n.realm.slots).mark ≢ Lost
+  behind-whole : (k : ℕ) → k ≤ count → (behind_at k n.core.realm.slots).mark ≢ Lost
   behind-whole k l =
       let same = few in
-      let joint = link-at driven.shape.origin driven.shape.target (count_in driven.shape) n.realm.slots driven.since.led.ran.wired k (omega arith) in
-      each_sound_link_is_whole (source_of k) (dest_of k) (link_of k) n.realm.slots joint.link (link-sound k l)
+      let joint = link-at driven.shape.origin driven.shape.target (count_in driven.shape) n.core.realm.slots driven.since.led.ran.wired k (omega arith) in
+      each_sound_link_is_whole (source_of k) (dest_of k) (link_of k) n.core.realm.slots joint.link (link-sound k l)
 
   coming-whole : (k : ℕ) → (coming n k).mark ≢ Lost
   coming-whole zero = λ e. let same = sound.input in grind arith
-  coming-whole (suc k) = behind-unlost k n.stages.items
+  coming-whole (suc k) = behind-unlost k n.core.stages.items
 
   lies-whole : (k : ℕ) → k ≤ count → (lies_in n k).mark ≢ Lost
   lies-whole k l =
-      subst (λ (why : Option Why). (lying_by why (then_told (in_bytes (behind_at k n.realm.slots)) (coming n k))).mark ≢ Lost) (sym sound.going)
-      (then-unlost (in_bytes (behind_at k n.realm.slots)) (coming n k) (behind-whole k l) (coming-whole k))
+      subst (λ (why : Option Why). (lying_by why (then_told (in_bytes (behind_at k n.core.realm.slots)) (coming n k))).mark ≢ Lost) (sym sound.going)
+      (then-unlost (in_bytes (behind_at k n.core.realm.slots)) (coming n k) (behind-whole k l) (coming-whole k))
 
   lies-before : (w : AtWork) (x : Told (List ℕ)) → x.mark ≢ Lost → LiesWhole w (before_work w x).mark
   lies-before (Live k) x h = h
@@ -108,18 +108,18 @@ module _ (n : Node) (driven : Driven n) (sound : IsSoundNode n) where
   are-whole k [] x h = tt
   are-whole k (w ∷ ws) x h = (lies-before w (x k) (h k (omega arith) (omega arith)), are-whole (suc k) ws x (λ j a b. h j (omega arith) (omega arith)))
 
-  works-count : length (works_in n) ≡ count
-  works-count = length-map (λ (w : State). w.work) n.stages.items
+  works-count : length (works_in n.core) ≡ count
+  works-count = length-map (λ (w : State). w.work) n.core.stages.items
 
   parts-whole : AreWhole (parts n)
-  parts-whole = are-whole 0 (works_in n) (lies_in n) (λ j a b. let same = works-count in lies-whole j (omega arith))
+  parts-whole = are-whole 0 (works_in n.core) (lies_in n) (λ j a b. let same = works-count in lies-whole j (omega arith))
 
   lying-whole : (lying n).mark ≢ Lost
-  lying-whole = subst (λ (x : Told (List ℕ)). x.mark ≢ Lost) (sym (behind_is 0 (works_in n) (lies_in n))) (let same = works-count in lies-whole (0 + length (works_in n)) (omega arith))
+  lying-whole = subst (λ (x : Told (List ℕ)). x.mark ≢ Lost) (sym (behind_is 0 (works_in n.core) (lies_in n))) (let same = works-count in lies-whole (0 + length (works_in n.core)) (omega arith))
 
   module _ (plan : Plan) (m₀ m₁ : Moment) (read went : Told (List ℕ)) (gain : List ℕ) (out : Mark) (gone : HasGone plan n m₀ m₁ read went gain out) where
     out-whole : out ≢ Lost
-    out-whole = out-unlost gone.from.output n.output gain out m₀ m₁ gone.is_new.output sound.output_unfailed sound.output_unaborted gone.output
+    out-whole = out-unlost gone.from.exit.output n.exit.output gain out m₀ m₁ gone.is_new.output sound.output_unfailed sound.output_unaborted gone.output
 
     went-whole : went.mark ≢ Lost
     went-whole = subst (λ (m : Mark). m ≢ Lost) (sym (short-mark gain out (bytes_of went) out-whole gone.written)) out-whole

@@ -75,9 +75,9 @@ coming-by i before after w v zero other = refl
 coming-by i before after w v (suc k) other = coming-elsewhere before after w v k (λ e. other (ap suc e))
 
 -- where the realm goes on, what comes behind is behind what lies there
-lies-then : (a : Node) (k : ℕ) (t : Told (List ℕ)) → a.stopped ≡ None → lies_to t a k ≡ then_told (lies_to nothing_yet a k) t
+lies-then : (a : Node) (k : ℕ) (t : Told (List ℕ)) → a.core.stopped ≡ None → lies_to t a k ≡ then_told (lies_to nothing_yet a k) t
 lies-then a k t goes =
-    let x : Told (List ℕ) = in_bytes (lies_on k a.realm.slots) in
+    let x : Told (List ℕ) = in_bytes (lies_on k a.core.realm.slots) in
     subst (λ (w : Option Why). lying_by w (then_told x t) ≡ then_told (lying_by w (then_told x nothing_yet)) t) (sym goes) (ap (λ (q : Told (List ℕ)). then_told q t) (sym (then_empty x)))
 
 -- no work is asked, and what lies before one that is over doesn't matter
@@ -119,15 +119,15 @@ goes-over ms before after e x y l h =
     (subst (λ (q : Told (List ℕ)). IsShortOf (y (0 + length ws)) q) (sym (behind_at 0 ws x)) (h (0 + length ws) (omega arith) (λ f. omega arith))))
 
 -- a node of this shape, one of whose stages is at this place
-module _ (shape : Shape) (a : Node) (before after : List State) (w : State) (goes : a.stopped ≡ None) (of : stages_in a ≡ shape.stages) (whole : a.stages.items ≡ before ++ w ∷ after) where
+module _ (shape : Shape) (a : Node) (before after : List State) (w : State) (goes : a.core.stopped ≡ None) (of : stages_in a.core ≡ shape.stages) (whole : a.core.stages.items ≡ before ++ w ∷ after) where
   pub count-is : count_in shape ≡ length before + suc (length after)
-  count-is = ap length (sym of) ∙ (length-map a.stages.items (λ w. w.stage) ∙ (ap length whole ∙ length-append before (w ∷ after)))
+  count-is = ap length (sym of) ∙ (length-map a.core.stages.items (λ w. w.stage) ∙ (ap length whole ∙ length-append before (w ∷ after)))
 
   -- the machines, the works before and those behind
-  machines-are : machines (stages_in a) ≡ machines (stages before) ++ machine w.stage ∷ machines (stages after)
+  machines-are : machines (stages_in a.core) ≡ machines (stages before) ++ machine w.stage ∷ machines (stages after)
   machines-are = ap (λ q. machines (stages q)) whole ∙ (ap machines (stages-at before after w) ∙ machines-at (stages before) (stages after) w.stage)
 
-  pub works-are : works_in a ≡ works before ++ w.work ∷ works after
+  pub works-are : works_in a.core ≡ works before ++ w.work ∷ works after
   works-are = ap works whole ∙ works-at before after w
 
   length-works : length (works before) ≡ length before
@@ -136,11 +136,11 @@ module _ (shape : Shape) (a : Node) (before after : List State) (w : State) (goe
   length-after : length (works after) ≡ length after
   length-after = length-map after (λ w. w.work)
 
-  module _ (b : Node) (v : State) (same : b.input ≡ a.input) (has : b.stages.items ≡ before ++ v ∷ after) where
+  module _ (b : Node) (v : State) (same : b.entrance.input ≡ a.entrance.input) (has : b.core.stages.items ≡ before ++ v ∷ after) where
     pub coming-same : (k : ℕ) → k ≢ suc (length before) → coming b k ≡ coming a k
     coming-same k other =
-        ap (λ (i : Input). coming_by i b.stages.items k) same ∙ (ap (λ (q : List State). coming_by a.input q k) has
-        ∙ (coming-by a.input before after w v k other ∙ ap (λ (q : List State). coming_by a.input q k) (sym whole)))
+        ap (λ (i : Input). coming_by i b.core.stages.items k) same ∙ (ap (λ (q : List State). coming_by a.entrance.input q k) has
+        ∙ (coming-by a.entrance.input before after w v k other ∙ ap (λ (q : List State). coming_by a.entrance.input q k) (sym whole)))
 
     pub coming-next : coming b (suc (length before)) ≡ coming_from v.work
     coming-next = ap (λ (q : List State). coming_behind (length before) q) has ∙ coming-there before after v
@@ -173,15 +173,15 @@ module _ (shape : Shape) (a : Node) (before after : List State) (w : State) (goe
         (short_as _ _ _ (lies-then a j (then_told (told chunks Open) (coming_from v.work)) goes) now)
 
     -- the parts go on as they do over these lists
-    as-parts : (ws vs : List AtWork) → works_in a ≡ ws → works_in b ≡ vs
+    as-parts : (ws vs : List AtWork) → works_in a.core ≡ ws → works_in b.core ≡ vs
         → Goes (machines (stages before) ++ machine w.stage ∷ machines (stages after)) nothing_yet (parts_at 0 ws (lies_in a)) (behind_of 0 ws (lies_in a)) (parts_at 0 vs (lies_in b)) (behind_of 0 vs (lies_in b))
-        → Goes (machines (stages_in a)) nothing_yet (parts a) (lying a) (parts b) (lying b)
+        → Goes (machines (stages_in a.core)) nothing_yet (parts a) (lying a) (parts b) (lying b)
     as-parts ws vs e f g = rw (machines-are, e, f) g
 
-    live-works : IsLive w.work → works_in a ≡ works before ++ Live (kept_in w.work) ∷ works after
+    live-works : IsLive w.work → works_in a.core ≡ works before ++ Live (kept_in w.work) ∷ works after
     live-works live = works-are ∙ ap (λ (q : AtWork). works before ++ q ∷ works after) (live-is w.work live)
 
-    works-now : (x : AtWork) → v.work ≡ x → works_in b ≡ works before ++ x ∷ works after
+    works-now : (x : AtWork) → v.work ≡ x → works_in b.core ≡ works before ++ x ∷ works after
     works-now x e = ap works has ∙ (works-at before after v ∙ ap (λ (q : AtWork). works before ++ q ∷ works after) e)
 
     -- what was told at the stage's place, behind it, and elsewhere
@@ -192,7 +192,7 @@ module _ (shape : Shape) (a : Node) (before after : List State) (w : State) (goe
 
     -- it was pushed
     pub pushed-goes : (piece : List ℕ) (live : IsLive w.work) → let by = (machine w.stage).push (kept_in w.work) piece in
-        v.work ≡ after_push by.ending by.kept → Stepped (told (piece ∷ []) Open) by.chunks → Goes (machines (stages_in a)) nothing_yet (parts a) (lying a) (parts b) (lying b)
+        v.work ≡ after_push by.ending by.kept → Stepped (told (piece ∷ []) Open) by.chunks → Goes (machines (stages_in a.core)) nothing_yet (parts a) (lying a) (parts b) (lying b)
     pushed-goes piece live is s =
         let kept = kept_in w.work in
         let by = (machine w.stage).push kept piece in
@@ -205,7 +205,7 @@ module _ (shape : Shape) (a : Node) (before after : List State) (w : State) (goe
 
     -- it was flushed
     pub flushed-goes : (live : IsLive w.work) → let by = (machine w.stage).flush (kept_in w.work) in
-        v.work ≡ Over by.ending → Stepped (told [] Closed) by.chunks → Goes (machines (stages_in a)) nothing_yet (parts a) (lying a) (parts b) (lying b)
+        v.work ≡ Over by.ending → Stepped (told [] Closed) by.chunks → Goes (machines (stages_in a.core)) nothing_yet (parts a) (lying a) (parts b) (lying b)
     flushed-goes live is s =
         let kept = kept_in w.work in
         let by = (machine w.stage).flush kept in
@@ -216,9 +216,9 @@ module _ (shape : Shape) (a : Node) (before after : List State) (w : State) (goe
         (λ k z less p q. lies-same s.elsewhere k less p q))
 
     -- it ended as the realm stopped
-    pub stopped-goes : (why : Why) → IsLive w.work → v.work ≡ Over Fine → b.stopped ≡ Some why → Goes (machines (stages_in a)) nothing_yet (parts a) (lying a) (parts b) (lying b)
+    pub stopped-goes : (why : Why) → IsLive w.work → v.work ≡ Over Fine → b.core.stopped ≡ Some why → Goes (machines (stages_in a.core)) nothing_yet (parts a) (lying a) (parts b) (lying b)
     stopped-goes why live is stopped =
-        let lost : (k : ℕ) → lies_in b k ≡ told [] Lost = λ k. ap (λ (q : Option Why). lying_by q (lies_in (record b { stopped = None }) k)) stopped in
+        let lost : (k : ℕ) → lies_in b k ≡ told [] Lost = λ k. ap (λ (q : Option Why). lying_by q (lies_in (record b { core = record b.core { stopped = None } }) k)) stopped in
         let none : (k : ℕ) (x : Told (List ℕ)) → IsShortOf (lies_in b k) x = λ k x. subst (λ (q : Told (List ℕ)). IsShortOf q x) (sym (lost k)) (x.items, refl) in
         as-parts (works before ++ Live (kept_in w.work) ∷ works after) (works before ++ Over Fine ∷ works after) (live-works live) (works-now (Over Fine) is)
         (goes_stops (machines (stages before)) (machine w.stage) (machines (stages after)) 0 (works before) (kept_in w.work) (works after) (lies_in a) (lies_in b) (length before)
@@ -226,7 +226,7 @@ module _ (shape : Shape) (a : Node) (before after : List State) (w : State) (goe
 
     -- nor is any asked where that at this place is over
     pub over-goes : (IsLive w.work → ⊥) → v.work ≡ w.work → ((k : ℕ) → k ≤ count_in shape → k ≢ length before → IsShortOf (lies_in b k) (lies_in a k))
-        → Goes (machines (stages_in a)) nothing_yet (parts a) (lying a) (parts b) (lying b)
+        → Goes (machines (stages_in a.core)) nothing_yet (parts a) (lying a) (parts b) (lying b)
     over-goes not_live is h =
         let over = over-is w.work not_live in
         let n = count-is in

@@ -143,21 +143,21 @@ unless_finished output.Aborted status = status
 
 -- where a node ends with a status
 abbrev pub EndsBy : Status → Node → Type 0
-EndsBy Done n = n.output ≡ output.Finished
-EndsBy ReadFault n = (n.output ≢ output.Finished) × (n.input ≡ input.Failed)
-EndsBy WriteFault n = n.output ≡ output.Failed
-EndsBy NoMemory n = n.output ≢ output.Finished
-EndsBy TooMuch n = (n.output ≢ output.Finished) × (n.input ≡ input.TooLong)
-EndsBy (Stage index code place) n = (n.output ≢ output.Finished) × EndedAs index code place n.stages.items
-EndsBy Aborted n = (n.output ≢ output.Finished) × (is_reached n.abort ≡ true)
+EndsBy Done n = n.exit.output ≡ output.Finished
+EndsBy ReadFault n = (n.exit.output ≢ output.Finished) × (n.entrance.input ≡ input.Failed)
+EndsBy WriteFault n = n.exit.output ≡ output.Failed
+EndsBy NoMemory n = n.exit.output ≢ output.Finished
+EndsBy TooMuch n = (n.exit.output ≢ output.Finished) × (n.entrance.input ≡ input.TooLong)
+EndsBy (Stage index code place) n = (n.exit.output ≢ output.Finished) × EndedAs index code place n.core.stages.items
+EndsBy Aborted n = (n.exit.output ≢ output.Finished) × (is_reached n.exit.abort ≡ true)
 EndsBy _ n = ⊥
 
 -- The end of a node: none while its pipe is pending and memory wasn't wanting; else by how the pipe settled, and 0 wherever the output
 -- was finished. Each status has its cause
 pub record EndsAs (status : Option Status) (n : Node) : Type 0 where
-  pub none : status ≡ None ↔ (has_settled (outcome_of_pipe n) ≡ false) × (n.stopped ≢ Some why.NoMemory)
-  pub fulfilled : (v : Plain) → outcome_of_pipe n ≡ Some (Fulfilled v) → status ≡ Some Done
-  pub rejected : (r : Plain) → outcome_of_pipe n ≡ Some (Rejected r) → IsNamed r × (status ≡ Some (unless_finished n.output (status_of r)))
-  pub wanting : outcome_of_pipe n ≡ Some Pending → n.stopped ≡ Some why.NoMemory → status ≡ Some (unless_finished n.output NoMemory)
+  pub none : status ≡ None ↔ (has_settled (outcome_of_pipe n.core) ≡ false) × (n.core.stopped ≢ Some why.NoMemory)
+  pub fulfilled : (v : Plain) → outcome_of_pipe n.core ≡ Some (Fulfilled v) → status ≡ Some Done
+  pub rejected : (r : Plain) → outcome_of_pipe n.core ≡ Some (Rejected r) → IsNamed r × (status ≡ Some (unless_finished n.exit.output (status_of r)))
+  pub wanting : outcome_of_pipe n.core ≡ Some Pending → n.core.stopped ≡ Some why.NoMemory → status ≡ Some (unless_finished n.exit.output NoMemory)
   pub by : MatchOption status (Unit {0}) (λ s. EndsBy s n)
-  pub counts : HasCounts n
+  pub counts : HasCounts n.entrance

@@ -24,10 +24,10 @@ pub record IsWhole (plan : Plan) (read gain : List ℕ) : Type 0 where
 pub record HasGone (plan : Plan) (n : Node) (old new : Moment) (read went : Told (List ℕ)) (gain : List ℕ) (out : Mark) : Type 0 where
   pub from : Node
   pub is_new : IsNew plan from
-  pub goes : Goes (machines (stages_in from)) read (parts from) (lying from) (parts n) (then_told went (lying n))
+  pub goes : Goes (machines (stages_in from.core)) read (parts from) (lying from) (parts n) (then_told went (lying n))
   pub written : IsShortOf (told gain out) (bytes_of went)
-  pub output : OutputGoes from.output n.output gain out old new
-  pub abort : AbortGoes from.abort n.abort went.items gain n.output
+  pub output : OutputGoes from.exit.output n.exit.output gain out old new
+  pub abort : AbortGoes from.exit.abort n.exit.abort went.items gain n.exit.output
 
 -- how what went out stands to what was read
 pub record KeepsFlow (plan : Plan) (n : Node) (read went : Told (List ℕ)) (gain : List ℕ) (out : Mark) : Type 0 where
@@ -35,9 +35,9 @@ pub record KeepsFlow (plan : Plan) (n : Node) (read went : Told (List ℕ)) (gai
   pub gained : IsBefore (told gain out) (out_of plan (concat read.items) read.mark)
   pub whole : (then_told (then_told went (lying n)) (residual (machines (stages_of plan)) (parts n))).mark ≢ Lost
       → then_told (then_told went (lying n)) (residual (machines (stages_of plan)) (parts n)) ≡ all_through (machines (stages_of plan)) read
-  pub finished : n.output ≡ output.Finished → (read.mark ≡ Closed) × IsWhole plan (concat read.items) gain
+  pub finished : n.exit.output ≡ output.Finished → (read.mark ≡ Closed) × IsWhole plan (concat read.items) gain
   pub near : (after : ℤ) → plan.abort_after ≡ Some after → 0 < length gain → StopsAt (nat_abs after) went.items gain
-  pub bad : (index code place : ℕ) → EndedAs index code place n.stages.items → IsBad plan index code place read.mark (concat read.items)
+  pub bad : (index code place : ℕ) → EndedAs index code place n.core.stages.items → IsBad plan index code place read.mark (concat read.items)
 
 -- `got` tells for what lists each output stands
 abbrev pub EachGoesOn : {K : Type 0} → (K → List ℕ → Type 0) → Type 0

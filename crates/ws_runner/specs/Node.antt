@@ -21,6 +21,7 @@ use Rattle.ws_realm.specs.declared.realm.Why.{Why}
 use Rattle.ws_runner.specs.declared.node.Abort.{Abort}
 use Rattle.ws_runner.specs.declared.node.Input.{Input}
 use Rattle.ws_runner.specs.declared.node.Input.TheVariants.{Open, Ended, Failed, TooLong}
+use Rattle.ws_runner.specs.declared.node.Core.{Core}
 use Rattle.ws_runner.specs.declared.node.Node.{Node}
 
 -- The streams are those of a chain: link k goes from stream 2k to stream 2k + 1. Link 0 comes from the source, the last link goes to the sink, and from
@@ -61,7 +62,7 @@ coming_by input ws zero = lost_by input
 coming_by input ws (suc k) = coming_behind k ws
 
 abbrev pub coming : Node → ℕ → Told (List ℕ)
-coming n k = coming_by n.input n.stages.items k
+coming n k = coming_by n.entrance.input n.core.stages.items k
 
 -- once the realm performs no more, all that lies in it is lost
 abbrev pub lying_by : Option Why → Told (List ℕ) → Told (List ℕ)
@@ -70,24 +71,24 @@ lying_by (Some why) x = told [] Lost
 
 -- what lies before the place that link k leads to, where this comes behind what lies on each link
 abbrev pub lies : (ℕ → Told (List ℕ)) → Node → ℕ → Told (List ℕ)
-lies c n k = lying_by n.stopped (then_told (in_bytes (behind_at k n.realm.slots)) (c k))
+lies c n k = lying_by n.core.stopped (then_told (in_bytes (behind_at k n.core.realm.slots)) (c k))
 
 abbrev pub lies_in : Node → ℕ → Told (List ℕ)
 lies_in n k = lies (coming n) n k
 
-abbrev pub works_in : Node → List AtWork
-works_in n = map (λ w. w.work) n.stages.items
+abbrev pub works_in : Core → List AtWork
+works_in core = map (λ w. w.work) core.stages.items
 
 -- the stages, each with what lies before it
 abbrev pub parts : Node → List Part
-parts n = parts_at 0 (works_in n) (lies_in n)
+parts n = parts_at 0 (works_in n.core) (lies_in n)
 
 -- and what lies behind the last of them
 abbrev pub lying : Node → Told (List ℕ)
-lying n = behind_of 0 (works_in n) (lies_in n)
+lying n = behind_of 0 (works_in n.core) (lies_in n)
 
-abbrev pub stages_in : Node → List Stage
-stages_in n = map (λ w. w.stage) n.stages.items
+abbrev pub stages_in : Core → List Stage
+stages_in core = map (λ w. w.stage) core.stages.items
 
 -- whether the output has all bytes before the abort
 abbrev pub is_reached : Option Abort → Bool
@@ -95,12 +96,12 @@ is_reached None = false
 is_reached (Some abort) = abort.left == 0
 
 -- whether a job is queued, or the host hasn't heard of something
-abbrev pub is_busy : Node → Bool
-is_busy n = not (is_idle n.realm.slots) || not (is_empty n.realm.slots.promises.events)
+abbrev pub is_busy : Core → Bool
+is_busy core = not (is_idle core.realm.slots) || not (is_empty core.realm.slots.promises.events)
 
 -- how the pipe into the sink has settled
-abbrev pub outcome_of_pipe : Node → Option Outcome
-outcome_of_pipe n = outcome_named n.pipe n.realm.slots
+abbrev pub outcome_of_pipe : Core → Option Outcome
+outcome_of_pipe core = outcome_named core.pipe core.realm.slots
 
 abbrev pub has_settled : Option Outcome → Bool
 has_settled None = false
@@ -110,7 +111,7 @@ abbrev pub has_settled_in : Slots → PromiseId → Bool
 has_settled_in s p = has_settled (outcome_named p s)
 
 -- whether each pipe has settled, and the host has heard of everything
-abbrev pub has_ended : Node → Bool
-has_ended n =
-    is_empty n.realm.slots.promises.events
-    && (has_settled (outcome_of_pipe n) && list_all (has_settled_in n.realm.slots) n.pipes_before.items)
+abbrev pub has_ended : Core → Bool
+has_ended core =
+    is_empty core.realm.slots.promises.events
+    && (has_settled (outcome_of_pipe core) && list_all (has_settled_in core.realm.slots) core.pipes_before.items)

@@ -27,6 +27,8 @@ use Rattle.ws_realm.specs.Seen.{oldest}
 use Rattle.ws_realm.specs.declared.realm.Why.TheVariants.{Spent}
 use Rattle.ws_reason_laws.specs.Reasons.{failures}
 use Rattle.ws_runner.specs.declared.node.Abort.{Abort as AbortOf}
+use Rattle.ws_runner.specs.declared.node.Entrance.{Entrance}
+use Rattle.ws_runner.specs.declared.node.Exit.{Exit}
 use Rattle.ws_runner.specs.declared.node.Input.{Input}
 use Rattle.ws_runner.specs.declared.node.Input.TheVariants as input
 use Rattle.ws_runner.specs.declared.node.Node.{Node}
@@ -51,11 +53,11 @@ pub record EndedAs (number code place : ℕ) (stages : List State) : Type 0 wher
   pub over : state.work ≡ Over (Bad code place)
 
 abbrev pub IsCauseFault : Node → Fault → Type 0
-IsCauseFault n Read = n.input ≡ input.Failed
-IsCauseFault n TooMuch = n.input ≡ input.TooLong
-IsCauseFault n Write = (n.output ≢ output.Open) × (n.output ≢ output.Aborted)
-IsCauseFault n (Stage index code place) = EndedAs index code place n.stages.items
-IsCauseFault n Abort = is_reached n.abort ≡ true
+IsCauseFault n Read = n.entrance.input ≡ input.Failed
+IsCauseFault n TooMuch = n.entrance.input ≡ input.TooLong
+IsCauseFault n Write = (n.exit.output ≢ output.Open) × (n.exit.output ≢ output.Aborted)
+IsCauseFault n (Stage index code place) = EndedAs index code place n.core.stages.items
+IsCauseFault n Abort = is_reached n.exit.abort ≡ true
 IsCauseFault n TypeError = ⊥
 IsCauseFault n RangeError = ⊥
 IsCauseFault n DataClone = ⊥
@@ -105,9 +107,9 @@ pub record Counts (limit taken ahead : ℕ) (i : Input) : Type 0 where
   pub piece : ahead ≤ 4096
   pub failed : i ≡ input.Failed → ahead ≡ 0
 
--- those of this node
-abbrev pub HasCounts : Node → Type 0
-HasCounts n = Counts n.most n.taken n.ahead n.input
+-- those of the entrance of a node
+abbrev pub HasCounts : Entrance → Type 0
+HasCounts entrance = Counts entrance.most entrance.taken entrance.ahead entrance.input
 
 -- each stage was asked for fewer chunks than the realm performed calls
 abbrev pub ArePushed : ℕ → List State → Type 0
@@ -116,41 +118,41 @@ ArePushed age stages = All (λ w. w.pushes < age) stages
 -- the stages, the abort and the limit are those of this plan
 pub record IsOf (plan : Plan) (n : Node) : Type 0 where
   pub accepted : IsAccepted plan
-  pub stages : stages_in n ≡ stages_of plan
-  pub source : n.source ≡ source_of 0
-  pub sink : n.sink ≡ dest_of (count_of plan)
-  pub most : n.most ≡ nat_abs plan.max_input
-  pub signal : option_map (λ a. a.signal) n.abort ≡ signal_of (is_aborted plan)
+  pub stages : stages_in n.core ≡ stages_of plan
+  pub source : n.entrance.source ≡ source_of 0
+  pub sink : n.exit.sink ≡ dest_of (count_of plan)
+  pub most : n.entrance.most ≡ nat_abs plan.max_input
+  pub signal : option_map (λ a. a.signal) n.exit.abort ≡ signal_of (is_aborted plan)
 
 -- the output refused what came behind the abort only where that was reached
-abbrev pub AbortsReached : Node → Type 0
-AbortsReached n = n.output ≡ output.Aborted → is_reached n.abort ≡ true
+abbrev pub AbortsReached : Exit → Type 0
+AbortsReached exit = exit.output ≡ output.Aborted → is_reached exit.abort ≡ true
 
 -- the stages, the ends, the limit and the signal of a node are those of its shape
 pub record IsShaped (shape : Shape) (n : Node) : Type 0 where
   pub fit : AreFit shape.stages
   pub from : shape.origin ≡ FromBytes
   pub into : shape.target ≡ ToSink
-  pub stages : stages_in n ≡ shape.stages
-  pub source : n.source ≡ source_of 0
-  pub sink : n.sink ≡ dest_of (count_in shape)
-  pub most : n.most ≡ shape.most
-  pub signal : option_map (λ a. a.signal) n.abort ≡ signal_of shape.aborted
+  pub stages : stages_in n.core ≡ shape.stages
+  pub source : n.entrance.source ≡ source_of 0
+  pub sink : n.exit.sink ≡ dest_of (count_in shape)
+  pub most : n.entrance.most ≡ shape.most
+  pub signal : option_map (λ a. a.signal) n.exit.abort ≡ signal_of shape.aborted
 
 -- a node of this shape to which this led
 pub record Led (shape : Shape) (past : List Entry) (n : Node) : Type 0 where
   pub is_of : IsShaped shape n
-  pub ran : HasRun shape past n.realm.slots
-  pub piped : IsPiped (count_in shape) past n.pipe
+  pub ran : HasRun shape past n.core.realm.slots
+  pub piped : IsPiped (count_in shape) past n.core.pipe
   pub failed : All (IsCause n) (failures past)
-  pub closes : ClosesFinished n.sink past n.output
-  pub flushes : FlushesFine past n.stages.items
-  pub asked : IsPull past n.asked
-  pub aborts : AbortsReached n
-  pub age : n.realm.slots.age ≤ oldest
-  pub counts : HasCounts n
+  pub closes : ClosesFinished n.exit.sink past n.exit.output
+  pub flushes : FlushesFine past n.core.stages.items
+  pub asked : IsPull past n.entrance.asked
+  pub aborts : AbortsReached n.exit
+  pub age : n.core.realm.slots.age ≤ oldest
+  pub counts : HasCounts n.entrance
   -- the realm has stopped as one that is spent only where it is
-  pub spent : n.stopped ≡ Some Spent → n.realm.slots.age ≡ oldest
+  pub spent : n.core.stopped ≡ Some Spent → n.core.realm.slots.age ≡ oldest
 
 -- whether what is read may still come to be had: while the first stage may be asked, or without stages the output may be written
 abbrev pub may_have : List State → Output → Option AbortOf → Bool
@@ -159,7 +161,7 @@ may_have [] o abort = is_writable o && not (is_reached abort)
 
 -- what is behind the host on the first link is then one chunk at most, of the bytes that weren't had
 abbrev pub HasOne : Node → Type 0
-HasOne n = may_have n.stages.items n.output n.abort ≡ true → OneAtMost n.ahead (behind_at 0 n.realm.slots).items
+HasOne n = may_have n.core.stages.items n.exit.output n.exit.abort ≡ true → OneAtMost n.entrance.ahead (behind_at 0 n.core.realm.slots).items
 
 -- Since the node was made these pieces came in, none of more than 4,096 bytes, and went through the stages to what went out and what lies in it. So no
 -- chunk that lies in it reaches 2^25 bytes
@@ -168,12 +170,12 @@ pub record IsFed (stages : List PlanStage) (n : Node) : Type 0 where
   pub went : Told (List ℕ)
   pub short : All (λ c. length c ≤ 4096) came.items
   -- while the output may be written, more may go out
-  pub goes_on : n.output ≡ output.Open → went.mark ≡ MayCome
+  pub goes_on : n.exit.output ≡ output.Open → went.mark ≡ MayCome
   pub flows : Flows (machines stages) came (parts n) (then_told went (lying n))
 
 pub record Since (shape : Shape) (past : List Entry) (n : Node) : Type 0 where
   pub led : Led shape past n
-  pub pushes : n.stopped ≡ None → ArePushed n.realm.slots.age n.stages.items
+  pub pushes : n.core.stopped ≡ None → ArePushed n.core.realm.slots.age n.core.stages.items
   pub one : HasOne n
   pub fed : IsFed shape.stages n
 
@@ -186,28 +188,28 @@ pub record Driven (n : Node) : Type 0 where
 -- a new node: nothing was read or written, and nothing lies in it
 pub record IsNew (plan : Plan) (n : Node) : Type 0 where
   pub is_of : IsOf plan n
-  pub pipes : AreAnsweredOf plan n.pipes_before.items
+  pub pipes : AreAnsweredOf plan n.core.pipes_before.items
   pub parts : parts n ≡ fresh (machines (stages_of plan))
   pub lying : lying n ≡ nothing_yet
-  pub abort : n.abort ≡ abort_of plan.abort_after
-  pub taken : n.taken ≡ 0
-  pub ahead : n.ahead ≡ 0
-  pub input : n.input ≡ input.Open
-  pub output : n.output ≡ output.Open
+  pub abort : n.exit.abort ≡ abort_of plan.abort_after
+  pub taken : n.entrance.taken ≡ 0
+  pub ahead : n.entrance.ahead ≡ 0
+  pub input : n.entrance.input ≡ input.Open
+  pub output : n.exit.output ≡ output.Open
 
 -- as it is made: the calls that open its realm were performed
 pub record IsFresh (plan : Plan) (n : Node) : Type 0 where
-  pub slots : n.realm.slots ≡ run (opening_by plan) empty
-  pub stages : n.stages.items ≡ all_begun (stages_of plan)
-  pub source : n.source ≡ source_of 0
-  pub sink : n.sink ≡ dest_of (count_of plan)
-  pub answered : IsAnswered plan n.pipe
-  pub before_answered : AreAnsweredOf plan n.pipes_before.items
-  pub abort : n.abort ≡ abort_of plan.abort_after
-  pub most : n.most ≡ nat_abs plan.max_input
-  pub taken : n.taken ≡ 0
-  pub ahead : n.ahead ≡ 0
-  pub asked : n.asked ≡ None
-  pub input : n.input ≡ input.Open
-  pub output : n.output ≡ output.Open
-  pub stopped : n.stopped ≡ None
+  pub slots : n.core.realm.slots ≡ run (opening_by plan) empty
+  pub stages : n.core.stages.items ≡ all_begun (stages_of plan)
+  pub source : n.entrance.source ≡ source_of 0
+  pub sink : n.exit.sink ≡ dest_of (count_of plan)
+  pub answered : IsAnswered plan n.core.pipe
+  pub before_answered : AreAnsweredOf plan n.core.pipes_before.items
+  pub abort : n.exit.abort ≡ abort_of plan.abort_after
+  pub most : n.entrance.most ≡ nat_abs plan.max_input
+  pub taken : n.entrance.taken ≡ 0
+  pub ahead : n.entrance.ahead ≡ 0
+  pub asked : n.entrance.asked ≡ None
+  pub input : n.entrance.input ≡ input.Open
+  pub output : n.exit.output ≡ output.Open
+  pub stopped : n.core.stopped ≡ None

@@ -28,11 +28,11 @@ pub record IsUnfailed (i j : StreamId) (p : PipeId) (s : Slots) : Type 0 where
 -- none of its links has failed, the one from its source and those from its stages; no call of its input or output has failed, no more was read than the run
 -- may take, and nothing came to be written behind the place of its abort; and its realm goes on
 pub record IsSoundNode (n : Node) : Type 0 where
-  pub links : (k : ℕ) → k ≤ length n.stages.items → IsUnfailed (source_of k) (dest_of k) (link_of k) n.realm.slots
-  pub input : lost_by n.input ≡ nothing_yet
-  pub output_unfailed : n.output ≢ output.Failed
-  pub output_unaborted : n.output ≢ output.Aborted
-  pub going : n.stopped ≡ None
+  pub links : (k : ℕ) → k ≤ length n.core.stages.items → IsUnfailed (source_of k) (dest_of k) (link_of k) n.core.realm.slots
+  pub input : lost_by n.entrance.input ≡ nothing_yet
+  pub output_unfailed : n.exit.output ≢ output.Failed
+  pub output_unaborted : n.exit.output ≢ output.Aborted
+  pub going : n.core.stopped ≡ None
 
 abbrev pub EachSoundNodeIsWhole : Type 0
 EachSoundNodeIsWhole =

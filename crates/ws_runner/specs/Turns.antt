@@ -12,39 +12,39 @@ use Rattle.ws_runner.specs.Node.{is_busy, has_ended}
 -- some run leads from the realm of a to that of b
 pub record Follows (a b : Node) : Type 0 where
   pub entries : List Entry
-  pub slots : b.realm.slots ≡ run entries a.realm.slots
+  pub slots : b.core.realm.slots ≡ run entries a.core.realm.slots
 
 -- one that begins so
 pub record GoesBy (x : Entry) (a b : Node) : Type 0 where
   pub rest : List Entry
-  pub slots : b.realm.slots ≡ run (x ∷ rest) a.realm.slots
+  pub slots : b.core.realm.slots ≡ run (x ∷ rest) a.core.realm.slots
 
 -- what waited was begun with: the first job was performed, or the host heard of the first event
 pub data IsBegun (a b : Node) : Type 0 where
-  JobFirst : is_idle a.realm.slots ≡ false → GoesBy JobWorked a b → IsBegun a b
-  EventFirst : is_empty a.realm.slots.promises.events ≡ false → GoesBy Heard a b → IsBegun a b
+  JobFirst : is_idle a.core.realm.slots ≡ false → GoesBy JobWorked a b → IsBegun a b
+  EventFirst : is_empty a.core.realm.slots.promises.events ≡ false → GoesBy Heard a b → IsBegun a b
 
 -- a realm performed jobs until no job was left, or as many were performed as may be
 pub data HasWorked (a b : Node) : Type 0 where
-  AnyJob : is_idle a.realm.slots ≡ false → GoesBy JobWorked a b → HasWorked a b
-  NoneQueued : is_idle b.realm.slots ≡ true → b.realm.slots ≡ a.realm.slots → HasWorked a b
+  AnyJob : is_idle a.core.realm.slots ≡ false → GoesBy JobWorked a b → HasWorked a b
+  NoneQueued : is_idle b.core.realm.slots ≡ true → b.core.realm.slots ≡ a.core.realm.slots → HasWorked a b
 
 -- the host heard of an event
 pub record HasHeard (a b : Node) : Type 0 where
-  pub going : a.stopped ≡ None
-  pub some : is_empty a.realm.slots.promises.events ≡ false
+  pub going : a.core.stopped ≡ None
+  pub some : is_empty a.core.realm.slots.promises.events ≡ false
   pub goes : GoesBy Heard a b
 
 -- there was none
 pub record NoneHeard (a : Node) : Type 0 where
-  pub going : a.stopped ≡ None
-  pub none : is_empty a.realm.slots.promises.events ≡ true
+  pub going : a.core.stopped ≡ None
+  pub none : is_empty a.core.realm.slots.promises.events ≡ true
 
 -- the turn that began at a and ended at b: it worked only where a job was performed or an event heard of, and was idle only where no job
 -- was queued and no event waited
 abbrev pub TurnIs : Turn → Node → Node → Type 0
-TurnIs Worked a b = (b.stopped ≡ None) × (has_ended b ≡ false) × (IsBegun a b)
-TurnIs Idle a b = (b.stopped ≡ None) × (has_ended b ≡ false) × (is_busy a ≡ false)
-TurnIs Ended a b = (b.stopped ≡ None) × (has_ended b ≡ true)
-TurnIs NoMemory a b = b.stopped ≡ Some why.NoMemory
-TurnIs Spent a b = (b.stopped ≡ Some why.Spent) × (b.realm.slots.age ≡ oldest)
+TurnIs Worked a b = (b.core.stopped ≡ None) × (has_ended b.core ≡ false) × (IsBegun a b)
+TurnIs Idle a b = (b.core.stopped ≡ None) × (has_ended b.core ≡ false) × (is_busy a.core ≡ false)
+TurnIs Ended a b = (b.core.stopped ≡ None) × (has_ended b.core ≡ true)
+TurnIs NoMemory a b = b.core.stopped ≡ Some why.NoMemory
+TurnIs Spent a b = (b.core.stopped ≡ Some why.Spent) × (b.core.realm.slots.age ≡ oldest)

@@ -9,6 +9,8 @@ use Rattle.ws_io.specs.Gain.{Gains, Becomes, KeepsTold}
 use Rattle.ws_io.specs.Moment.{Moment}
 use Rattle.ws_realm.specs.declared.realm.Why.{Why}
 use Rattle.ws_runner.specs.declared.node.Abort.{Abort}
+use Rattle.ws_runner.specs.declared.node.Entrance.{Entrance}
+use Rattle.ws_runner.specs.declared.node.Exit.{Exit}
 use Rattle.ws_runner.specs.declared.node.Input.{Input}
 use Rattle.ws_runner.specs.declared.node.Input.TheVariants as input
 use Rattle.ws_runner.specs.declared.node.Node.{Node}
@@ -80,17 +82,17 @@ pub record DoesNothing (a b : Node) (old new : Moment) (read : Told (List ℕ)) 
 
 -- the segments of a node as they stand: the one that it has
 abbrev pub stretches : Node → List Stretch
-stretches n = record { stages = stages_in n; parts = parts n; behind = lying n } ∷ []
+stretches n = record { stages = stages_in n.core; parts = parts n; behind = lying n } ∷ []
 
 -- How a node goes on by itself, at whatever moments of the outside: so much came into each of its segments, and so much went out of it. What lay before each
 -- stage, and then what came, was taken by it or lies there now, and what the last one made went out or lies behind it, or is cut short of that
 pub record CoreGoes (a b : Node) (ms : List Move) : Type 0 where
   pub moves : AllMove (stretches a) ms (stretches b)
-  pub pipe : b.pipe ≡ a.pipe
-  pub pipes : b.pipes_before ≡ a.pipes_before
+  pub pipe : b.core.pipe ≡ a.core.pipe
+  pub pipes : b.core.pipes_before ≡ a.core.pipes_before
 
 -- What its input adds: what came in was read of it, in some cutting into pieces, none longer than one read, and is counted
-pub record FromGoes (a b : Node) (old new : Moment) (came : Told (List ℕ)) : Type 0 where
+pub record FromGoes (a b : Entrance) (old new : Moment) (came : Told (List ℕ)) : Type 0 where
   pub fed : Fed old.feed new.feed (concat came.items)
   pub short : All (λ c. length c ≤ 4096) came.items
   pub counted : b.taken ≡ a.taken + length (concat came.items)
@@ -99,7 +101,7 @@ pub record FromGoes (a b : Node) (old new : Moment) (came : Told (List ℕ)) : T
   pub most : b.most ≡ a.most
 
 -- What its output adds: what that gained is what went out, or is cut short of it
-pub record ToGoes (a b : Node) (old new : Moment) (got got' : List ℕ → Type 0) (went : Told (List ℕ)) (gain : List ℕ) (out : Mark) : Type 0 where
+pub record ToGoes (a b : Exit) (old new : Moment) (got got' : List ℕ → Type 0) (went : Told (List ℕ)) (gain : List ℕ) (out : Mark) : Type 0 where
   pub gained : Gains got got' gain
   pub written : IsShortOf (told gain out) (bytes_of went)
   pub output : OutputGoes a.output b.output gain out old new
@@ -113,9 +115,9 @@ pub record Went (a b : Node) (old new : Moment) (got got' : List ℕ → Type 0)
   pub gain : List ℕ
   pub out : Mark
   pub core : CoreGoes a b (record { came = read; went = went } ∷ [])
-  pub from : FromGoes a b old new read
-  pub into : ToGoes a b old new got got' went gain out
+  pub from : FromGoes a.entrance b.entrance old new read
+  pub into : ToGoes a.exit b.exit old new got got' went gain out
   -- without stages what the output hasn't had is at least what was read and not gained
-  pub ahead : a.stages.items ≡ [] → a.ahead + length (concat read.items) ≤ length gain + b.ahead
+  pub ahead : a.core.stages.items ≡ [] → a.entrance.ahead + length (concat read.items) ≤ length gain + b.entrance.ahead
   -- one that had stopped does nothing more
-  pub stays : (why : Why) → a.stopped ≡ Some why → DoesNothing a b old new read gain
+  pub stays : (why : Why) → a.core.stopped ≡ Some why → DoesNothing a b old new read gain

@@ -13,7 +13,7 @@ ghost use Rattle.ws_runner.specs.Past.{Driven, HasCounts};
 ghost use Rattle.ws_runner.specs.Turns.{Follows, HasHeard, IsBegun, NoneHeard};
 ghost use Rattle.ws_runner.specs.Went.{Went};
 
-use crate::node::{Abort, Input, Node, Output};
+use crate::node::{Abort, Exit, Input, Node, Output};
 use std::alloc::Global;
 use ws_io::{Failed, Sink, Source, write_whole};
 use ws_realm::{Answer, Call, Chunk, Event, Fault, HostId, NoMemory, Plain, StreamId, Value, Why};
@@ -75,7 +75,7 @@ impl Node {
             (moment (S.faults input.old) (S.feed input.old) (K.faults output.old) (K.finished output.old))
             (moment (S.faults input.new) (S.feed input.new) (K.faults output.new) (K.finished output.new))
             (K.got output.old) (K.got output.new) }
-        ensures begun { is_busy self.old ≡ true → self.new.stopped ≡ None → IsBegun self.old self.new }
+        ensures begun { is_busy self.old.core ≡ true → self.new.core.stopped ≡ None → IsBegun self.old self.new }
     {
         // the first round stands apart, since it tells what the turn began with
         let mut jobs = self.work(JOBS_OF_A_TURN);
@@ -101,12 +101,12 @@ impl Node {
             (K.got output.old) (K.got output.new) }
         ensures follows { Follows self.old self.new }
         ensures heard { result ≡ true → HasHeard self.old self.new }
-        ensures none { result ≡ false → self.new.stopped ≡ None → NoneHeard self.old }
+        ensures none { result ≡ false → self.new.core.stopped ≡ None → NoneHeard self.old }
     {
-        if self.stopped.is_some() {
+        if self.core.stopped.is_some() {
             return false;
         }
-        let Some(event) = self.realm.next_event() else {
+        let Some(event) = self.core.realm.next_event() else {
             return false;
         };
         self.hear_of(event, output);
@@ -138,7 +138,7 @@ impl Node {
             (K.got output.old) (K.got output.new) }
     {
         match call {
-            HostCall::Pull(_) => self.asked = Some(id),
+            HostCall::Pull(_) => self.entrance.asked = Some(id),
             HostCall::Write(stream, value) => self.write(id, stream, value, output),
             HostCall::Close(stream) => self.close(id, stream, output),
             HostCall::Start(_) => self.settle(id),
@@ -160,30 +160,30 @@ impl Node {
     /// Answers the pull that waits by one read of the input, once all that was read before was had. An input that
     /// ended or failed isn't read again.
     fn read<S: Source>(&mut self, alloc: Global, input: &mut S)
-        requires { HasCounts self.old }
+        requires { HasCounts self.old.entrance }
         ensures { Reads self.old self.new
             (S.feed input.old) (S.feed input.new) (S.faults input.old) (S.faults input.new) }
     {
-        if self.stopped.is_some() {
+        if self.core.stopped.is_some() {
             return;
         }
-        if self.ahead > 0 {
+        if self.entrance.ahead > 0 {
             return;
         }
-        if !self.input.is_open() {
+        if !self.entrance.input.is_open() {
             return;
         }
-        let Some(pull) = self.asked else {
+        let Some(pull) = self.entrance.asked else {
             return;
         };
-        self.asked = None;
-        let want = (self.most - self.taken + 1).min(MOST_OF_A_READ) as usize;
+        self.entrance.asked = None;
+        let want = (self.entrance.most - self.entrance.taken + 1).min(MOST_OF_A_READ) as usize;
         match read_piece(alloc, input, want) {
             Ok(piece) => {
                 self.take(piece);
                 self.settle(pull)
             }
-            Err(NoMemory) => self.stopped = Some(Why::NoMemory),
+            Err(NoMemory) => self.core.stopped = Some(Why::NoMemory),
         }
     }
 
@@ -195,29 +195,29 @@ impl Node {
         match piece {
             Ok(chunk) => self.take_chunk(chunk),
             Err(Failed) => {
-                self.input = Input::Failed;
-                self.ask(Call::Fail(self.source, Plain::Fault(Fault::Read)))
+                self.entrance.input = Input::Failed;
+                self.ask(Call::Fail(self.entrance.source, Plain::Fault(Fault::Read)))
             }
         }
     }
 
     /// An empty piece is the end; one with which more is taken than may be fails the source.
     fn take_chunk(&mut self, chunk: Chunk)
-        requires { self.old.taken + length chunk < 2 ^ 64 }
+        requires { self.old.entrance.taken + length chunk < 2 ^ 64 }
         ensures { takes_chunk chunk self.old self.new }
     {
         if chunk.is_empty() {
-            self.input = Input::Ended;
-            return self.ask(Call::Finish(self.source));
+            self.entrance.input = Input::Ended;
+            return self.ask(Call::Finish(self.entrance.source));
         }
         let count = chunk.len() as u64;
-        self.taken += count;
-        self.ahead = count;
-        if self.taken > self.most {
-            self.input = Input::TooLong;
-            return self.ask(Call::Fail(self.source, Plain::Fault(Fault::TooMuch)));
+        self.entrance.taken += count;
+        self.entrance.ahead = count;
+        if self.entrance.taken > self.entrance.most {
+            self.entrance.input = Input::TooLong;
+            return self.ask(Call::Fail(self.entrance.source, Plain::Fault(Fault::TooMuch)));
         }
-        let _taken = self.enqueue(self.source, chunk);
+        let _taken = self.enqueue(self.entrance.source, chunk);
     }
 
     /// A chunk that came to a stage is pushed. A stage that is over is asked nothing more, and nothing is answered for
@@ -232,14 +232,14 @@ impl Node {
         let Some(place) = place_of(stream) else {
             return;
         };
-        let Some(work) = self.stages.get_mut(place) else {
+        let Some(work) = self.core.stages.get_mut(place) else {
             return;
         };
         if !work.is_live() {
             return;
         }
         if place == 0 {
-            self.ahead -= chunk.len() as u64;
+            self.entrance.ahead -= chunk.len() as u64;
         }
         let pushed = work.push(chunk);
         self.put_out(id, stream, pushed)
@@ -252,7 +252,7 @@ impl Node {
         let Some(place) = place_of(stream) else {
             return;
         };
-        let Some(work) = self.stages.get_mut(place) else {
+        let Some(work) = self.core.stages.get_mut(place) else {
             return;
         };
         if !work.is_live() {
@@ -271,7 +271,7 @@ impl Node {
                 self.enqueue_all(stream, pushed.chunks);
                 self.settle_by(id, stream, pushed.ending)
             }
-            Err(NoMemory) => self.stopped = Some(Why::NoMemory),
+            Err(NoMemory) => self.core.stopped = Some(Why::NoMemory),
         }
     }
 
@@ -305,21 +305,15 @@ impl Node {
         ensures { writes_by id value self.old self.new
             (record { faults = K.faults output.old; finished = K.finished output.old })
             (record { faults = K.faults output.new; finished = K.finished output.new })
-            (K.got output.old) (K.got output.new) (is_same self.old.sink stream) }
+            (K.got output.old) (K.got output.new) (is_same self.old.exit.sink stream) }
     {
-        if !self.is_sink(stream) {
+        if !self.exit.is_sink(stream) {
             return self.settle(id);
         }
         match value {
             Value::Bytes(chunk) => self.write_chunk(id, &chunk, output),
             Value::Plain(_) => self.settle(id),
         }
-    }
-
-    fn is_sink(&self, stream: StreamId) -> bool
-        ensures { result ≡ is_same self.now.sink stream }
-    {
-        self.sink.0 == stream.0
     }
 
     /// Writes a chunk whole. An output that was finished or has failed takes no more, nor does one that has all bytes
@@ -331,18 +325,18 @@ impl Node {
             (record { faults = K.faults output.new; finished = K.finished output.new })
             (K.got output.old) (K.got output.new) }
     {
-        if !self.output.is_open() {
+        if !self.exit.output.is_open() {
             return self.fail_output(id);
         }
-        if self.is_reached() {
-            self.output = Output::Aborted;
+        if self.exit.is_reached() {
+            self.exit.output = Output::Aborted;
             return self.fail_output(id);
         }
         match write_whole(output, chunk.as_slice()) {
             Ok(()) => {
                 let count = chunk.len() as u64;
-                if self.stages.is_empty() {
-                    self.ahead -= count;
+                if self.core.stages.is_empty() {
+                    self.entrance.ahead -= count;
                 }
                 self.draw_near(count);
                 self.settle(id)
@@ -351,25 +345,15 @@ impl Node {
         }
     }
 
-    /// Whether the output has all bytes before the abort.
-    fn is_reached(&self) -> bool
-        ensures { result ≡ is_reached self.now.abort }
-    {
-        match self.abort {
-            Some(abort) => abort.left == 0,
-            None => false,
-        }
-    }
-
     /// Counts bytes that were written. Where these are all before the abort, its signal is triggered.
     fn draw_near(&mut self, count: u64)
         ensures { DrawsNear count self.old self.new }
     {
-        let Some(abort) = self.abort else {
+        let Some(abort) = self.exit.abort else {
             return;
         };
         let left = abort.left.saturating_sub(count);
-        self.abort = Some(Abort { left, ..abort });
+        self.exit.abort = Some(Abort { left, ..abort });
         if left == 0 {
             self.ask(Call::Trigger(abort.signal, Plain::Fault(Fault::Abort)))
         }
@@ -380,9 +364,9 @@ impl Node {
         ensures { finishes_by id self.old self.new
             (record { faults = K.faults output.old; finished = K.finished output.old })
             (record { faults = K.faults output.new; finished = K.finished output.new })
-            (K.got output.old) (K.got output.new) (is_same self.old.sink stream) }
+            (K.got output.old) (K.got output.new) (is_same self.old.exit.sink stream) }
     {
-        if !self.is_sink(stream) {
+        if !self.exit.is_sink(stream) {
             return self.settle(id);
         }
         self.finish(id, output)
@@ -395,12 +379,12 @@ impl Node {
             (record { faults = K.faults output.new; finished = K.finished output.new })
             (K.got output.old) (K.got output.new) }
     {
-        if !self.output.is_open() {
+        if !self.exit.output.is_open() {
             return self.fail_output(id);
         }
         match output.finish() {
             Ok(()) => {
-                self.output = Output::Finished;
+                self.exit.output = Output::Finished;
                 self.settle(id)
             }
             Err(Failed) => self.fail_output(id),
@@ -411,7 +395,25 @@ impl Node {
     fn fail_output(&mut self, id: HostId)
         ensures { Fails id self.old self.new }
     {
-        self.output = self.output.shut();
-        self.fail(id, self.output.fault())
+        self.exit.output = self.exit.output.shut();
+        self.fail(id, self.exit.output.fault())
+    }
+}
+
+impl Exit {
+    fn is_sink(&self, stream: StreamId) -> bool
+        ensures { result ≡ is_same self.now.sink stream }
+    {
+        self.sink.0 == stream.0
+    }
+
+    /// Whether the output has all bytes before the abort.
+    fn is_reached(&self) -> bool
+        ensures { result ≡ is_reached self.now.abort }
+    {
+        match self.abort {
+            Some(abort) => abort.left == 0,
+            None => false,
+        }
     }
 }

@@ -9,7 +9,7 @@ ghost use Rattle.ws_steps.specs.Run as steps;
 ghost use Rattle.ws_steps.specs.declared.calls.Call.TheVariants.{MakeSignal};
 ghost use Rattle.ws_steps.specs.declared.calls.Reply.TheVariants as reply;
 
-use crate::node::{Abort, Input, Node, Output};
+use crate::node::{Abort, Core, Entrance, Exit, Input, Node, Output};
 use std::alloc::Global;
 use ws_realm::{
     Call, Kind, NoMemory, Prevent, PromiseId, Realm, Reply, SignalId, SizeBy, StartBy, StreamId,
@@ -133,20 +133,26 @@ impl Node {
         let signal = abort.map(|abort| abort.signal);
         let pipe = make_pipe(&mut realm, count, signal)?;
         Ok(Node {
-            realm,
-            stages,
-            source: StreamId(0),
-            sink: StreamId(2 * count + 1),
-            pipes_before,
-            pipe,
-            abort,
-            most: plan.max_input.unsigned_abs(),
-            taken: 0,
-            ahead: 0,
-            asked: None,
-            input: Input::Open,
-            output: Output::Open,
-            stopped: None,
+            core: Core {
+                realm,
+                stages,
+                pipes_before,
+                pipe,
+                stopped: None,
+            },
+            entrance: Entrance {
+                source: StreamId(0),
+                most: plan.max_input.unsigned_abs(),
+                taken: 0,
+                ahead: 0,
+                asked: None,
+                input: Input::Open,
+            },
+            exit: Exit {
+                sink: StreamId(2 * count + 1),
+                abort,
+                output: Output::Open,
+            },
         })
     }
 }

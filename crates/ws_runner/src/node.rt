@@ -54,22 +54,25 @@ pub struct Abort {
     pub left: u64,
 }
 
-/// The realm of a run, and what its host knows. The streams were made in order: the source, for each stage the two
-/// halves of its transform stream, and the sink.
+/// What every node has: its realm, its stages and its pipes.
 #[derive(Drop)]
-pub struct Node {
+pub struct Core {
     pub realm: Realm,
     /// The stages, in order.
     pub stages: Vec<Work>,
-    /// The stream that the input feeds.
-    pub source: StreamId,
-    /// The stream that feeds the output.
-    pub sink: StreamId,
     /// The promises of the pipes into the stages.
     pub pipes_before: Vec<PromiseId>,
     /// The promise of the pipe into the sink.
     pub pipe: PromiseId,
-    pub abort: Option<Abort>,
+    /// Why the realm performs no more.
+    pub stopped: Option<Why>,
+}
+
+/// Where a node is fed: the stream that the input feeds, and what was read.
+#[derive(Drop)]
+pub struct Entrance {
+    /// The stream that the input feeds.
+    pub source: StreamId,
     /// The most bytes that the run may take.
     pub most: u64,
     /// The bytes that were read.
@@ -79,93 +82,32 @@ pub struct Node {
     /// The pull that isn't answered yet.
     pub asked: Option<HostId>,
     pub input: Input,
-    pub output: Output,
-    /// Why the realm performs no more.
-    pub stopped: Option<Why>,
 }
 
-impl Node {
-    /// The realm performs a call, unless it has stopped. A refusal stops it.
-    pub fn ask(&mut self, call: Call)
-        ensures { Asks call self.old self.new }
-    {
-        if self.stopped.is_some() {
-            return;
-        }
-        if let Err(why) = perform(&mut self.realm, call) {
-            self.stopped = Some(why);
-        }
-    }
+/// Where a node feeds: the stream that feeds the output, and the abort.
+#[derive(Drop)]
+pub struct Exit {
+    /// The stream that feeds the output.
+    pub sink: StreamId,
+    pub abort: Option<Abort>,
+    pub output: Output,
+}
 
-    /// Tells the realm that what the host was asked is done.
-    pub fn settle(&mut self, id: HostId)
-        ensures { Asks (settles id) self.old self.new }
-    {
-        if self.stopped.is_some() {
-            return;
-        }
-        if let Err(why) = self.realm.settle_done(id) {
-            self.stopped = Some(why);
-        }
-    }
+/// The realm of a run, and what its host knows. The streams were made in order: the source, for each stage the two
+/// halves of its transform stream, and the sink.
+#[derive(Drop)]
+pub struct Node {
+    pub core: Core,
+    pub entrance: Entrance,
+    pub exit: Exit,
+}
 
-    /// Enqueues a chunk. False says that the stream takes no more, or that the realm has stopped.
-    pub fn enqueue(&mut self, stream: StreamId, chunk: Chunk) -> bool
-        ensures asks { Asks (Enqueue stream (Bytes chunk)) self.old self.new }
-        ensures done { result ≡ true ↔ IsDoneBy (Enqueue stream (Bytes chunk)) self.old self.new }
-    {
-        if self.stopped.is_some() {
-            return false;
-        }
-        match self.realm.enqueue(stream, Value::Bytes(chunk)) {
-            Ok(done) => done,
-            Err(why) => {
-                self.stopped = Some(why);
-                false
-            }
-        }
-    }
-
-    /// The realm performs jobs until none is queued, or `most` were; how many more there might have been is answered.
-    /// A refusal stops it.
-    pub fn work(&mut self, most: u32) -> u32
-        ensures works { Works self.old self.new }
-        ensures worked { 0 < most → self.new.stopped ≡ None → HasWorked self.old self.new }
-        ensures within { result ≤ most }
-    {
-        if self.stopped.is_some() {
-            return most;
-        }
-        let mut left = most;
-        while left > 0 {
-            match self.realm.job() {
-                Ok(true) => left -= 1,
-                Ok(false) => return left,
-                Err(why) => {
-                    self.stopped = Some(why);
-                    return left;
-                }
-            }
-        }
-        left
-    }
-
+impl Core {
     /// Whether a job is queued, or the host hasn't heard of something.
     pub fn is_busy(&self) -> bool
         ensures { result ≡ is_busy self.now }
     {
         self.realm.queued() > 0 || self.realm.has_event()
-    }
-
-    /// How the pipe into the sink has settled.
-    fn outcome(&self) -> &Outcome
-        requires { Driven self.now }
-        ensures { outcome_of_pipe self.now ≡ Some result.now }
-    {
-        match self.realm.outcome(self.pipe) {
-            Some(outcome) => outcome,
-            None => unreachable!(),
-        }
     }
 
     /// Whether a pipe has settled.
@@ -193,6 +135,84 @@ impl Node {
         }
         true
     }
+}
+
+impl Node {
+    /// The realm performs a call, unless it has stopped. A refusal stops it.
+    pub fn ask(&mut self, call: Call)
+        ensures { Asks call self.old self.new }
+    {
+        if self.core.stopped.is_some() {
+            return;
+        }
+        if let Err(why) = perform(&mut self.core.realm, call) {
+            self.core.stopped = Some(why);
+        }
+    }
+
+    /// Tells the realm that what the host was asked is done.
+    pub fn settle(&mut self, id: HostId)
+        ensures { Asks (settles id) self.old self.new }
+    {
+        if self.core.stopped.is_some() {
+            return;
+        }
+        if let Err(why) = self.core.realm.settle_done(id) {
+            self.core.stopped = Some(why);
+        }
+    }
+
+    /// Enqueues a chunk. False says that the stream takes no more, or that the realm has stopped.
+    pub fn enqueue(&mut self, stream: StreamId, chunk: Chunk) -> bool
+        ensures asks { Asks (Enqueue stream (Bytes chunk)) self.old self.new }
+        ensures done { result ≡ true ↔ IsDoneBy (Enqueue stream (Bytes chunk)) self.old self.new }
+    {
+        if self.core.stopped.is_some() {
+            return false;
+        }
+        match self.core.realm.enqueue(stream, Value::Bytes(chunk)) {
+            Ok(done) => done,
+            Err(why) => {
+                self.core.stopped = Some(why);
+                false
+            }
+        }
+    }
+
+    /// The realm performs jobs until none is queued, or `most` were; how many more there might have been is answered.
+    /// A refusal stops it.
+    pub fn work(&mut self, most: u32) -> u32
+        ensures works { Works self.old self.new }
+        ensures worked { 0 < most → self.new.core.stopped ≡ None → HasWorked self.old self.new }
+        ensures within { result ≤ most }
+    {
+        if self.core.stopped.is_some() {
+            return most;
+        }
+        let mut left = most;
+        while left > 0 {
+            match self.core.realm.job() {
+                Ok(true) => left -= 1,
+                Ok(false) => return left,
+                Err(why) => {
+                    self.core.stopped = Some(why);
+                    return left;
+                }
+            }
+        }
+        left
+    }
+
+    /// How the pipe into the sink has settled.
+    fn outcome(&self) -> &Outcome
+        requires { Driven self.now }
+        ensures { outcome_of_pipe self.now.core ≡ Some result.now }
+    {
+        match self.core.realm.outcome(self.core.pipe) {
+            Some(outcome) => outcome,
+            None => unreachable!(),
+        }
+    }
 
     /// The status that follows from how the pipe into the sink settled, and with 0 from an output that was finished.
     pub fn status(&self) -> Option<Status>
@@ -201,18 +221,20 @@ impl Node {
     {
         match self.outcome() {
             Outcome::Pending => {
-                if let Some(Why::NoMemory) = self.stopped {
-                    return Some(self.unless_finished(Status::NoMemory));
+                if let Some(Why::NoMemory) = self.core.stopped {
+                    return Some(self.exit.unless_finished(Status::NoMemory));
                 }
                 None
             }
             Outcome::Fulfilled(_) => Some(Status::Done),
-            Outcome::Rejected(reason) => Some(self.unless_finished(status_of(*reason))),
+            Outcome::Rejected(reason) => Some(self.exit.unless_finished(status_of(*reason))),
             Outcome::Given(_) => unreachable!(),
             Outcome::Finished(_) => unreachable!(),
         }
     }
+}
 
+impl Exit {
     /// An output that was finished has all that came out, whatever is wanting afterwards.
     fn unless_finished(&self, status: Status) -> Status
         ensures { result ≡ unless_finished self.now.output status }

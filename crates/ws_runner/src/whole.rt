@@ -51,15 +51,15 @@ impl Whole {
             (moment (S.faults input.new) (S.feed input.new) (K.faults output.new) (K.finished output.new))
             (K.got output.old) (K.got output.new) }
         ensures turn { TurnIs result self.old self.new }
-        ensures counts { HasCounts self.new }
+        ensures counts { HasCounts self.new.entrance }
     {
-        let busy = self.node.is_busy();
+        let busy = self.node.core.is_busy();
         self.node.go_on(alloc, input, output);
-        match self.node.stopped {
+        match self.node.core.stopped {
             Some(Why::NoMemory) => Turn::NoMemory,
             Some(Why::Spent) => Turn::Spent,
             None => {
-                if self.node.has_ended() {
+                if self.node.core.has_ended() {
                     Turn::Ended
                 } else if busy {
                     Turn::Worked

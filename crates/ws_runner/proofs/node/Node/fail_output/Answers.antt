@@ -6,5 +6,5 @@ use Rattle.ws_runner.proofs.node.Node.fail_output.Goals as goal
 
 pub returns : goal.returns
 returns c =
-    subst (λ (o : Output). Asks (fails c.args.id (fault_of o)) (record c.args.self.now { output = o }) c.fail.new.self) c.shut-self.ensures
-    (subst (λ (fault : Fault). Asks (fails c.args.id fault) (record c.args.self.now { output = c.shut-self.result }) c.fail.new.self) c.fault.ensures c.fail.ensures)
+    subst (λ (o : Output). Asks (fails c.args.id (fault_of o)) (record c.args.self.now { exit = record c.args.self.now.exit { output = o } }) c.fail.new.self) c.shut-self.ensures
+    (subst (λ (fault : Fault). Asks (fails c.args.id fault) (record c.args.self.now { exit = record c.args.self.now.exit { output = c.shut-self.result } }) c.fail.new.self) c.fault.ensures c.fail.ensures)

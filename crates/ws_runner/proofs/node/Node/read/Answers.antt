@@ -13,11 +13,11 @@ returns-then-not-is_open g c =
 
 pub returns-in-Ok : goal.returns-in-Ok
 returns-in-Ok g c =
-    ReadOnce (is_none_so c.args.self.now.stopped (sym c.is_some.ensures ∙ c.if-is_some.false)) (omega arith)
-    (may_read c.args.self.now.input c.is_open.result c.is_open.ensures c.if-not-is_open.false) c.in-Some.pull c.in-Some.is c.min-want.result (omega arith) (omega arith) c.in-Ok.piece
+    ReadOnce (is_none_so c.args.self.now.core.stopped (sym c.is_some.ensures ∙ c.if-is_some.false)) (omega arith)
+    (may_read c.args.self.now.entrance.input c.is_open.result c.is_open.ensures c.if-not-is_open.false) c.in-Some.pull c.in-Some.is c.min-want.result (omega arith) (omega arith) c.in-Ok.piece
     c.in-Ok.ensures.piece c.take.new.self c.take.ensures c.settle.ensures
 
 pub returns-in-Err : goal.returns-in-Err
 returns-in-Err g c =
-    Wanted (is_none_so c.args.self.now.stopped (sym c.is_some.ensures ∙ c.if-is_some.false))
+    Wanted (is_none_so c.args.self.now.core.stopped (sym c.is_some.ensures ∙ c.if-is_some.false))
     (record { feed = ap g.S.Source.feed c.in-Err.ensures.none; calm = ap g.S.Source.faults c.in-Err.ensures.none }) c.in-Some.pull c.in-Some.is refl

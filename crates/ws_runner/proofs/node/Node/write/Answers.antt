@@ -17,5 +17,5 @@ returns-in-Bytes g c =
 
 pub returns-in-Plain : goal.returns-in-Plain
 returns-in-Plain g c =
-    writes-so c.args.id c.args.value _ (is_same c.args.self.now.sink c.args.stream) c.args.self.now c.settle-in-Plain.new.self _ _ _ _ c.in-Plain.is
-    (settles-plain c.args.id c.in-Plain.field-0 (is_same c.args.self.now.sink c.args.stream) _ _ _ _ _ _ (c.settle-in-Plain.ensures, untouched _ (g.K.Sink.got c.args.output.now)))
+    writes-so c.args.id c.args.value _ (is_same c.args.self.now.exit.sink c.args.stream) c.args.self.now c.settle-in-Plain.new.self _ _ _ _ c.in-Plain.is
+    (settles-plain c.args.id c.in-Plain.field-0 (is_same c.args.self.now.exit.sink c.args.stream) _ _ _ _ _ _ (c.settle-in-Plain.ensures, untouched _ (g.K.Sink.got c.args.output.now)))

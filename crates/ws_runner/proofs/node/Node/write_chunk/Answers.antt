@@ -8,25 +8,25 @@ use Rattle.ws_runner.proofs.node.Node.write_chunk.Goals as goal
 
 pub returns-then-not-is_open : goal.returns-then-not-is_open
 returns-then-not-is_open g c =
-    WroteNone (isn't_open c.args.self.now.output c.is_open.result c.is_open.ensures c.if-not-is_open.true) (untouched _ (g.K.Sink.got c.args.output.now)) c.fail_output.ensures
+    WroteNone (isn't_open c.args.self.now.exit.output c.is_open.result c.is_open.ensures c.if-not-is_open.true) (untouched _ (g.K.Sink.got c.args.output.now)) c.fail_output.ensures
 
 pub returns-then-is_reached : goal.returns-then-is_reached
 returns-then-is_reached g c =
-    Reached (is_open c.args.self.now.output c.is_open.result c.is_open.ensures c.if-not-is_open.false) (sym c.is_reached.ensures ∙ c.if-is_reached.true)
+    Reached (is_open c.args.self.now.exit.output c.is_open.result c.is_open.ensures c.if-not-is_open.false) (sym c.is_reached.ensures ∙ c.if-is_reached.true)
     (untouched _ (g.K.Sink.got c.args.output.now)) c.fail_output-then-is_reached.ensures
 
 pub returns-after-is_empty : goal.returns-after-is_empty
 returns-after-is_empty g c =
     let w = c.in-Ok.ensures in
     let n : Node = c.args.self.now in
-    let empty : c.is_empty.result ≡ (length n.stages.items == 0) = c.is_empty.ensures ∙ ap (λ k. k == 0) n.stages.ok.0 in
+    let empty : c.is_empty.result ≡ (length n.core.stages.items == 0) = c.is_empty.ensures ∙ ap (λ k. k == 0) n.core.stages.ok.0 in
     let had : c.if-is_empty.self ≡ written (length c.args.chunk.now) n = elim c.if-is_empty.branch [
       | then-is_empty v ↦
           v.self-is
-          ∙ ap (λ k. record n { ahead = k }) (ap (λ k. n.ahead - k) c.len-count.ensures ∙ sym (had-none n.stages.items c.is_empty.result (length c.args.chunk.now) n.ahead empty v.if-is_empty.true).1)
-      | else-is_empty v ↦ v.self-is ∙ ap (λ k. record n { ahead = k }) (sym (had-some n.stages.items c.is_empty.result (length c.args.chunk.now) n.ahead empty v.if-is_empty.false))
+          ∙ ap (λ k. record n { entrance = record n.entrance { ahead = k } }) (ap (λ k. n.entrance.ahead - k) c.len-count.ensures ∙ sym (had-none n.core.stages.items c.is_empty.result (length c.args.chunk.now) n.entrance.ahead empty v.if-is_empty.true).1)
+      | else-is_empty v ↦ v.self-is ∙ ap (λ k. record n { entrance = record n.entrance { ahead = k } }) (sym (had-some n.core.stages.items c.is_empty.result (length c.args.chunk.now) n.entrance.ahead empty v.if-is_empty.false))
     ] in
-    WroteAll (is_open n.output c.is_open.result c.is_open.ensures c.if-not-is_open.false) (sym c.is_reached.ensures ∙ c.if-is_reached.false)
+    WroteAll (is_open n.exit.output c.is_open.result c.is_open.ensures c.if-not-is_open.false) (sym c.is_reached.ensures ∙ c.if-is_reached.false)
     (gains-all _ _ c.args.chunk.now w.bytes.gain w.bytes.rest (sym c.as_slice.ensures ∙ w.bytes.first) w.bytes.all w.bytes.gained) w.cause.answered w.finished c.draw_near.new.self
     (subst (λ (a : Node). DrawsNear (length c.args.chunk.now) a c.draw_near.new.self) had
     (subst (λ (k : ℕ). DrawsNear k c.if-is_empty.self c.draw_near.new.self) c.len-count.ensures c.draw_near.ensures)) c.settle.ensures
@@ -34,5 +34,5 @@ returns-after-is_empty g c =
 pub returns-in-Err : goal.returns-in-Err
 returns-in-Err g c =
     let w = c.in-Err.ensures in
-    WroteLess (is_open c.args.self.now.output c.is_open.result c.is_open.ensures c.if-not-is_open.false) (sym c.is_reached.ensures ∙ c.if-is_reached.false) w.bytes.gain w.bytes.rest
+    WroteLess (is_open c.args.self.now.exit.output c.is_open.result c.is_open.ensures c.if-not-is_open.false) (sym c.is_reached.ensures ∙ c.if-is_reached.false) w.bytes.gain w.bytes.rest
     (sym c.as_slice.ensures ∙ w.bytes.first) w.bytes.gained w.cause.failed w.finished c.fail_output-in-Err.ensures

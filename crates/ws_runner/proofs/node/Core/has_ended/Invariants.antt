@@ -1,7 +1,7 @@
 use Rattle.std.proofs.Common.{◌≡◌, drop}
 use Rattle.std.specs.List.{list_all}
 use Rattle.ws_runner.specs.Node.{has_settled_in}
-use Rattle.ws_runner.proofs.node.Node.has_ended.Given as goal
+use Rattle.ws_runner.proofs.node.Core.has_ended.Given as goal
 
 -- the rest tells what all tell
 abbrev pub invariant-loop-pipe : goal.invariant-loop-pipe

@@ -3,7 +3,7 @@ use Rattle.std.specs.List.{list_all}
 use Rattle.ws_steps.specs.Queues.{is_empty}
 use Rattle.ws_runner.specs.Node.{has_settled, has_settled_in, outcome_of_pipe}
 use Rattle.ws_runner.proofs.Settled.{one-not, one-more, all-so, ended-so, ended-not}
-use Rattle.ws_runner.proofs.node.Node.has_ended.Goals as goal
+use Rattle.ws_runner.proofs.node.Core.has_ended.Goals as goal
 
 pub returns-then-not-has_settled-2 : goal.returns-then-not-has_settled-2
 returns-then-not-has_settled-2 c =
