@@ -21,18 +21,18 @@ use Rattle.ws_flow.proofs.Through.{all_before, all_append}
 use Rattle.ws_flow.proofs.Told.{before_refl, before_trans, before_front, before_then}
 use Rattle.ws_joined_laws.specs.Condition.{has_only_bytes, AreBytes, AreShort, OnwardIf, AreInRange, EachConditionIsMet}
 
-first-all : {A : Type 0} (P : A → Type 0) (xs ys : List A) → All P (xs ++ ys) → All P xs
+pub first-all : {A : Type 0} (P : A → Type 0) (xs ys : List A) → All P (xs ++ ys) → All P xs
 first-all P [] ys h = All-nil P
 first-all P (x ∷ xs) ys h = All-cons P x xs (All-head P x (xs ++ ys) h) (first-all P xs ys (All-tail P x (xs ++ ys) h))
 
-front-all : {A : Type 0} (P : A → Type 0) (xs ys : List A) → IsFront xs ys → All P ys → All P xs
+pub front-all : {A : Type 0} (P : A → Type 0) (xs ys : List A) → IsFront xs ys → All P ys → All P xs
 front-all P xs ys (r, e) h = first-all P xs r (subst (λ q. All P q) e h)
 
-stages-assoc : (a b c : List Stage) → (a ++ b) ++ c ≡ a ++ (b ++ c)
+pub stages-assoc : (a b c : List Stage) → (a ++ b) ++ c ≡ a ++ (b ++ c)
 stages-assoc [] b c = refl
 stages-assoc (x ∷ a) b c = ap (λ q. x ∷ q) (stages-assoc a b c)
 
-front-range : (a b : List Stage) → AreInRange (a ++ b) → AreInRange a
+pub front-range : (a b : List Stage) → AreInRange (a ++ b) → AreInRange a
 front-range a b h = record {
   range = (and_parts (list_all is_in_range a) (list_all is_in_range b) (sym (list_all-append is_in_range a b) ∙ h.range)).0;
   hex =

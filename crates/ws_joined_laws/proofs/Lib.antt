@@ -1,4 +1,5 @@
 pub mod Condition
 pub mod Joined
 pub mod Telling
+pub mod Lengths
 mod Worked

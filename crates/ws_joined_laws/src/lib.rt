@@ -4,6 +4,7 @@
 
 ghost use Rattle.ws_joined_laws.specs.Condition.{EachConditionIsMet};
 ghost use Rattle.ws_joined_laws.specs.Joined.{EachJoinedRunEnds, EachNodeTells};
+ghost use Rattle.ws_joined_laws.specs.Lengths.{EachChunkIsBelow, EachFedChunkIsBelow, EachHeldChunkIsBelow, EachMayBePushed};
 
 /// A node that sent a close was told the end of what came in, each of its stages ended fine, and what it sent is all
 /// that they make of it.
@@ -30,6 +31,22 @@ pub fn each_node_tells()
 /// Of: nodes, plans.
 pub fn each_condition_is_met()
     ensures { EachConditionIsMet }
+{}
+
+/// In a node whose chunks came by messages, each of fewer than 2^25 bytes, no chunk reaches 2^32 bytes, and so each
+/// stage may be asked for what lies before it.
+///
+/// That is said of each chunk that lies before a stage which may be asked, that lies behind the last one, or that went
+/// out. The stages are those of a plan that isn't refused. It follows from what holds of any bounds: where no chunk that
+/// came in is longer than some number, none in the node is longer than sixteen times that, or than sixteen times the
+/// longest chunk that a stage cuts, with 65 bytes more for each stage. `frame` alone asks for fewer than 2^32 bytes.
+///
+/// Of: nodes, stages.
+pub fn each_held_chunk_may_be_pushed()
+    ensures chunks { EachChunkIsBelow }
+    ensures held { EachHeldChunkIsBelow }
+    ensures fed { EachFedChunkIsBelow }
+    ensures push { EachMayBePushed }
 {}
 
 /// What the output of a run over any number of nodes got is a first part of what all stages make of the bytes that
