@@ -45,7 +45,7 @@ front-range a b h = record {
 }
 
 -- what went out of the nodes so far is before what their stages make of the pieces
-abbrev IsReached : Told (List ℕ) → List Stage → Way → Type 0
+abbrev pub IsReached : Told (List ℕ) → List Stage → Way → Type 0
 IsReached x prior (Host b) = Unit {0}
 IsReached x prior (Row s) = IsBefore (told_by s) (all_through (machines prior) x)
 
@@ -54,7 +54,7 @@ went-reached y (Host b) went x prior e h same = tt
 went-reached y (Row s) went x prior e h same = subst (λ z. IsBefore (told_by s) z) same (subst (λ z. IsBefore z y) e h)
 
 module _ (x : Told (List ℕ)) (short : All (λ c. length c ≤ 4096) x.items) (got : Told ℕ) where
-  keeps-reached : (m : Member) (k : Keeps m) (prior : List Stage) → IsBefore k.came (all_through (machines prior) x) → IsReached x (prior ++ m.stages) m.to
+  pub keeps-reached : (m : Member) (k : Keeps m) (prior : List Stage) → IsBefore k.came (all_through (machines prior) x) → IsReached x (prior ++ m.stages) m.to
   keeps-reached m k prior b =
       let y = all_through (machines m.stages) (all_through (machines prior) x) in
       went-reached y m.to k.went x (prior ++ m.stages) k.is_went
@@ -63,7 +63,7 @@ module _ (x : Told (List ℕ)) (short : All (λ c. length c ≤ 4096) x.items) (
       (all_before (machines m.stages) k.came (all_through (machines prior) x) b)))
       (sym (all_append (machines prior) (machines m.stages) x) ∙ ap (λ q. all_through q x) (sym (machines-append prior m.stages)))
 
-  came-is : (w : Way) (received : List Message) (came : Told (List ℕ)) → w ≡ Row received → Came w came → came ≡ told_by received
+  pub came-is : (w : Way) (received : List Message) (came : Told (List ℕ)) → w ≡ Row received → Came w came → came ≡ told_by received
   came-is w received came e c = subst (λ q. Came q came) e c
 
   walk : (prior : List Stage) (w : Way) (ms : List Member) → AreInRange (prior ++ all_stages ms) → AreBytes w → IsReached x prior w → OnwardIf w ms got → Onward w ms got

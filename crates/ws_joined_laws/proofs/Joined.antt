@@ -28,7 +28,7 @@ front-all : {A : Type 0} (P : A → Type 0) (xs ys : List A) → All P (xs ++ ys
 front-all P [] ys a = All-nil P
 front-all P (x ∷ xs) ys a = All-cons P x xs (All-head P x (xs ++ ys) a) (front-all P xs ys (All-tail P x (xs ++ ys) a))
 
-at-all : {A : Type 0} (P : A → Type 0) (xs : List A) (y : A) (zs : List A) → All P (xs ++ y ∷ zs) → P y
+pub at-all : {A : Type 0} (P : A → Type 0) (xs : List A) (y : A) (zs : List A) → All P (xs ++ y ∷ zs) → P y
 at-all P [] y zs a = All-head P y zs a
 at-all P (x ∷ xs) y zs a = at-all P xs y zs (All-tail P x (xs ++ y ∷ zs) a)
 

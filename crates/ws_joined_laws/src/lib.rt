@@ -1,10 +1,13 @@
-//! Laws of nodes that are joined by rows of messages: when each keeps its flow, what it has told with an end, and how
-//! a run over any number of them ends, in any order of their turns.
+//! Laws of nodes that are joined by rows of messages: when each keeps its flow, how long a chunk can be in it, what it
+//! has told with an end, and how a run over any number of them ends, in any order of their turns.
 #![tactic(auto)]
 
 ghost use Rattle.ws_joined_laws.specs.Condition.{EachConditionIsMet};
+ghost use Rattle.ws_joined_laws.specs.Finished.{EachRunOfNodesEnds};
 ghost use Rattle.ws_joined_laws.specs.Joined.{EachJoinedRunEnds, EachNodeTells};
 ghost use Rattle.ws_joined_laws.specs.Lengths.{EachChunkIsBelow, EachFedChunkIsBelow, EachHeldChunkIsBelow, EachMayBePushed};
+ghost use Rattle.ws_joined_laws.specs.RunEnds.{EachRunTellsItsEnd};
+ghost use Rattle.ws_joined_laws.specs.Sends.{EachNodeMeetsIt};
 
 /// A node that sent a close was told the end of what came in, each of its stages ended fine, and what it sent is all
 /// that they make of it.
@@ -33,13 +36,25 @@ pub fn each_condition_is_met()
     ensures { EachConditionIsMet }
 {}
 
+/// In a chain of nodes each node is sent nothing but bytes, fewer than 2^25 of them in a chunk, and so is the output.
+///
+/// The premises are those of `each_condition_is_met`, and what its condition asks is met of each node. What went out of
+/// a node comes in such chunks however it keeps its flow; of the first node it is asked that the input was read in
+/// pieces of at most 4,096 bytes there too. Of the node that feeds the output, what went out are the chunks that it
+/// writes.
+///
+/// Of: nodes, plans.
+pub fn each_node_is_sent_short_chunks()
+    ensures { EachNodeMeetsIt }
+{}
+
 /// In a node whose chunks came by messages, each of fewer than 2^25 bytes, no chunk reaches 2^32 bytes, and so each
 /// stage may be asked for what lies before it.
 ///
 /// That is said of each chunk that lies before a stage which may be asked, that lies behind the last one, or that went
-/// out. The stages are those of a plan that isn't refused. It follows from what holds of any bounds: where no chunk that
-/// came in is longer than some number, none in the node is longer than sixteen times that, or than sixteen times the
-/// longest chunk that a stage cuts, with 65 bytes more for each stage. `frame` alone asks for fewer than 2^32 bytes.
+/// out. The stages are those of a plan that isn't refused. It follows from what holds of any bounds: where no chunk
+/// that came in is longer than some number, none in the node is longer than sixteen times that, or than sixteen times
+/// the longest chunk that a stage cuts, with 65 bytes more for each stage. Only `frame` asks for fewer than 2^32 bytes.
 ///
 /// Of: nodes, stages.
 pub fn each_held_chunk_may_be_pushed()
@@ -66,4 +81,27 @@ pub fn each_held_chunk_may_be_pushed()
 /// Of: nodes, stages, reasons.
 pub fn each_joined_run_ends()
     ensures { EachJoinedRunEnds }
+{}
+
+/// A run over any number of nodes ends as a run of its stages may end, by what its nodes tell of it.
+///
+/// What the output got is a first part of what the stages make of the bytes that were taken, and with an abort it has
+/// fewer than 2^25 bytes more than that names. Where it was finished it has all, the input was read to its end, and
+/// each stage ended fine. A reason with which the pipe into the sink was rejected is a fault that one of the nodes
+/// found, or that of a stage: this is bad in the bytes as they come, or behind the end of the input, and where it found
+/// that at the end of its own input, each stage before it ended fine.
+///
+/// With what the input and the output tell (`status`): the run ends with 0 where its output was finished, and then
+/// neither has failed and no more was taken than the run may take. Else it ends with the status of such a reason, which
+/// its cause allows, or for want of memory, and the output isn't finished. At most one byte more was taken than the run
+/// may take, and without stages at most 4,096 bytes of it weren't written.
+///
+/// The premises are those of `each_condition_is_met` and of `each_joined_run_ends`, where a node tells its reasons, and
+/// how near to the abort its output stopped, under the condition that the chunks that it received are bytes, fewer than
+/// 2^25 of them. It isn't said that a run ends, nor which of several reasons it ends with.
+///
+/// Of: nodes, stages, reasons.
+pub fn each_run_of_nodes_ends()
+    ensures ends { EachRunOfNodesEnds }
+    ensures status { EachRunTellsItsEnd }
 {}
