@@ -1,5 +1,5 @@
 -- How a run ends, by what its nodes tell.
-use Rattle.std.proofs.Common.{◌≡◌, ◌≢◌, ◌+◌, ◌-◌, ◌<◌, ◌≤◌, ◌^◌, ℕ, suc, ℤ, nat_abs, true, List, [], ◌∷◌, ◌++◌, length, map, Option, Some, None, refl, sym, ap, ◌∙◌, subst, arith}
+use Rattle.std.proofs.Common.{◌≡◌, ◌≢◌, ◌+◌, ◌-◌, ◌<◌, ◌^◌, ℕ, suc, ℤ, nat_abs, List, [], ◌∷◌, ◌++◌, length, Option, Some, None, sym, ap, ◌∙◌, subst, arith}
 use Rattle.std.specs.Prelude.{All}
 use Rattle.std.proofs.lemmas.List.Elements.{All-nil, All-cons, All-head, All-tail}
 use Rattle.ws_value.specs.declared.fault.Fault.TheVariants.{TypeError, RangeError, DataClone, User, Read, Write, Stage, TooMuch, Abort, NoMemory}
@@ -7,14 +7,13 @@ use Rattle.ws_value.specs.declared.value.Plain.{Plain}
 use Rattle.ws_value.specs.declared.value.Plain.TheVariants.{Undefined, Number, Fault as FaultReason, Pair, Local}
 use Rattle.ws_flow.specs.declared.plan.Ending.TheVariants.{Fine, Bad}
 use Rattle.ws_flow.specs.declared.plan.Stage.{Stage as PlanStage}
-use Rattle.ws_flow.specs.Chains.{Member, all_stages}
-use Rattle.ws_flow.specs.Machines.{some_chunk, EndsWell}
-use Rattle.ws_flow.specs.Plans.{as_one}
+use Rattle.ws_flow.specs.Chains.{all_stages}
+use Rattle.ws_flow.specs.Machines.{some_chunk}
 use Rattle.ws_flow.specs.Stages.{machines}
 use Rattle.ws_flow.specs.Told.{Mark, Open, Closed, Told, told}
 use Rattle.ws_flow.proofs.Told.{before_front}
 use Rattle.ws_joined_laws.specs.Ends.{out_of, ending_of, HasAll, IsBad, IsWithinAbort, StopsIn, StopsNear}
-use Rattle.ws_joined_laws.specs.Finished.{CausesIf, KeepsNear, LastStops, NodesTell, IsFoundFor, NodesEnd, EachRunOfNodesEnds}
+use Rattle.ws_joined_laws.specs.Finished.{CausesIf, NodesTell, IsFoundFor, NodesEnd, EachRunOfNodesEnds}
 use Rattle.ws_joined_laws.specs.Joined.{Node, members, EachHasCauses, IsJoined, EndsBadly, RejectsFor, JoinedEnds}
 use Rattle.ws_joined_laws.specs.Sends.{MeetsIt}
 use Rattle.ws_joined_laws.proofs.AtEnd.{found_late, fine_before}

@@ -1,5 +1,5 @@
 -- How long a chunk can be in a node: by what each kind of stage is shown to be.
-use Rattle.std.proofs.Common.{◌≡◌, ◌⊎◌, inl, inr, ℕ, zero, suc, ◌+◌, ◌*◌, ◌<◌, ◌≤◌, Bool, true, false, cond, List, [], ◌∷◌, ◌++◌, length, refl, sym, ap, ◌∙◌, subst, arith}
+use Rattle.std.proofs.Common.{◌≡◌, ◌⊎◌, inl, inr, ℕ, zero, suc, ◌+◌, ◌*◌, ◌<◌, ◌≤◌, Bool, true, false, cond, List, [], ◌∷◌, ◌++◌, length, refl, sym, ap, subst, arith}
 use Rattle.std.specs.List.{All, list_all, filter}
 use Rattle.std.proofs.lemmas.Bool.{and_parts, cases_lt}
 use Rattle.std.proofs.lemmas.Nat.{mul-le}
@@ -21,7 +21,7 @@ use Rattle.ws_flow.proofs.Short.{EachShort}
 use Rattle.ws_flow.proofs.Through.{through_before}
 use Rattle.ws_flow.proofs.Told.{before_of_short, before_refl, before_trans, before_front, before_then}
 use Rattle.ws_joined_laws.specs.Condition.{AreInRange}
-use Rattle.ws_joined_laws.specs.Lengths.{AreBounds, LiesBelow, AreBelow, HoldsBelow, EachChunkIsBelow, EachHeldChunkIsBelow, EachFedChunkIsBelow, EachMayBePushed}
+use Rattle.ws_joined_laws.specs.Lengths.{AreBounds, LiesBelow, AreBelow, EachChunkIsBelow, EachHeldChunkIsBelow, EachFedChunkIsBelow, EachMayBePushed}
 use Rattle.ws_joined_laws.proofs.Condition.{front-all, front-range}
 
 -- The first half says of any bounds what `ws_flow` has of 4,096 and 2^25, where its lemmas are private
@@ -180,9 +180,15 @@ at-most (c ∷ cs) h =
     let l = All-head (λ c. length c < 33554432) c cs h in
     All-cons (λ c. length c ≤ 33554431) c cs (omega arith) (at-most cs (All-tail (λ c. length c < 33554432) c cs h))
 
+pub fed-bounds : AreBounds 33554431 4294967296
+fed-bounds = record { came = omega arith; cut = omega arith }
+
 pub fed-below : EachFedChunkIsBelow
-fed-below ss came parts went behind r h f =
-    held-below 33554431 4294967296 ss came parts went behind (record { came = omega arith; cut = omega arith }) r (at-most came.items h) f
+fed-below ss came parts went behind r h f = held-below 33554431 4294967296 ss came parts went behind fed-bounds r (at-most came.items h) f
+
+-- those of a node that reads the input in pieces
+pub read-bounds : AreBounds 4096 33554432
+read-bounds = record { came = omega arith; cut = omega arith }
 
 pub may-be-pushed : EachMayBePushed
 may-be-pushed (Lines most) n h = tt

@@ -7,3 +7,4 @@ pub mod Sends
 pub mod Finished
 pub mod RunEnds
 mod Worked
+mod WorkedEnds

@@ -1,12 +1,11 @@
 -- What a run of nodes may end with, by what they tell of it.
-use Rattle.std.proofs.Common.{◌≡◌, ◌≢◌, ◌≤◌, ℕ, Bool, true, List, [], ◌∷◌, ◌++◌, length, refl, sym, ap, ◌∙◌, subst, arith}
-use Rattle.std.specs.Prelude.{All, Contains}
+use Rattle.std.proofs.Common.{◌≡◌, ℕ, Bool, true, List, sym, subst}
+use Rattle.std.specs.Prelude.{All}
 use Rattle.std.proofs.lemmas.List.Elements.{All-contains}
 use Rattle.ws_value.specs.declared.fault.Fault.TheVariants.{TypeError, RangeError, DataClone, User, Read, Write, Stage, TooMuch as TooMuchFault, Abort as AbortFault, NoMemory as NoMemoryFault}
 use Rattle.ws_value.specs.declared.value.Plain.{Plain}
 use Rattle.ws_value.specs.declared.value.Plain.TheVariants.{Undefined, Number, Fault as FaultReason, Pair, Local}
 use Rattle.ws_flow.specs.declared.plan.Ending.TheVariants.{Fine}
-use Rattle.ws_flow.specs.Chains.{all_stages}
 use Rattle.ws_flow.specs.Told.{Mark, Open, Closed, Broken, Lost, Told, told, IsBefore}
 use Rattle.ws_io.specs.Gain.{KeepsTold}
 use Rattle.ws_io.specs.Moment.{Moment}
@@ -14,7 +13,7 @@ use Rattle.ws_io.specs.declared.status.Status.{Status}
 use Rattle.ws_io.specs.declared.status.Status.TheVariants.{Done, Stage as StageIs, Usage, Plan as PlanIs, ReadFault, WriteFault, Aborted, NoMemory, Script, LoadFault, TooMuch}
 use Rattle.ws_joined_laws.specs.Ends.{out_of, ending_of, IsBad}
 use Rattle.ws_joined_laws.specs.Finished.{IsFoundFor, NodesEnd}
-use Rattle.ws_joined_laws.specs.Joined.{Node, members, SomeFinds}
+use Rattle.ws_joined_laws.specs.Joined.{Node, SomeFinds}
 use Rattle.ws_joined_laws.specs.Reasons.{Finds}
 use Rattle.ws_joined_laws.specs.RunEnds.{IsReadToEnd, ReadAs, Task, IsDone, Allows, Leaves, EndsSo, FindsSo, RunTells, status_of, IsStatus, Complete, Rejected, Wanting, EachRunTellsItsEnd}
 use Rattle.ws_joined_laws.proofs.Finished.{each-run-of-nodes-ends}

@@ -13,8 +13,9 @@ use Rattle.ws_value.specs.declared.value.Value.TheVariants.{Bytes}
 use Rattle.ws_flow.specs.declared.plan.Ending.TheVariants.{Fine, Bad}
 use Rattle.ws_flow.specs.declared.plan.Stage.TheVariants.{Hex, Unhex}
 use Rattle.ws_flow.specs.Chains.{Host, Row, Member, Keeps}
-use Rattle.ws_flow.specs.Parts.{Over, nothing_told}
-use Rattle.ws_flow.specs.Told.{Open, Closed, Lost, Told, told}
+use Rattle.ws_flow.specs.Parts.{Over, Flows, nothing_told}
+use Rattle.ws_flow.specs.Stages.{machines}
+use Rattle.ws_flow.specs.Told.{Open, Closed, Lost, Told, told, then_told}
 use Rattle.ws_joined_laws.specs.Condition.{has_only_bytes, ChainedIf}
 use Rattle.ws_joined_laws.specs.Reasons.{Finds, HasCause, Passed, Own}
 use Rattle.ws_joined_laws.specs.Joined.{Node, IsJoined, IsWhole, EndsBadly, RejectsFor}
@@ -22,38 +23,35 @@ use Rattle.ws_joined_laws.proofs.Condition.{each_condition_is_met}
 use Rattle.ws_joined_laws.proofs.Joined.{ends}
 
 -- a node that finds nothing
-abbrev finds : ℕ → Finds
+abbrev pub finds : ℕ → Finds
 finds k = record { before = k; read_failed = false; too_much = false; write_failed = false; abort_reached = false; memory_wanting = false }
 
 -- the first node has no stages, the second writes text in hexadecimal digits
 
-abbrev letters : Told ℕ
+abbrev pub letters : Told ℕ
 letters = told (codes "ab") Closed
 
 abbrev sent : List Message
 sent = Chunk (Bytes (codes "ab")) ∷ Close ∷ []
 
-abbrev reads : Member
+abbrev pub reads : Member
 reads = record { stages = []; from = Host letters; parts = []; behind = nothing_told; to = Row sent }
 
-abbrev writes : Member
+abbrev pub writes : Member
 writes = record { stages = Hex ∷ []; from = Row sent; parts = record { work = Over Fine; before = nothing_told } ∷ []; behind = nothing_told; to = Host (told (codes "6162") Closed) }
 
 abbrev reads-keeps : Keeps reads
 reads-keeps = record { came = told (codes "ab" ∷ []) Closed; went = told (codes "ab" ∷ []) Closed; is_came = refl; is_went = refl; flows = (refl, refl) }
 
-writes-keeps : Keeps writes
+pub writes-flows : Flows (machines writes.stages) (told (codes "ab" ∷ []) Closed) writes.parts (then_told (told (codes "6162" ∷ []) Closed) writes.behind)
 unfolding encode_with
-writes-keeps = record {
-  came = told (codes "ab" ∷ []) Closed;
-  went = told (codes "6162" ∷ []) Closed;
-  is_came = refl;
-  is_went = (refl, refl);
-  flows = (told (codes "ab" ∷ []) Closed, refl, (refl, refl), (refl, refl));
-}
+writes-flows = (told (codes "ab" ∷ []) Closed, refl, (refl, refl), (refl, refl))
+
+abbrev pub writes-keeps : Keeps writes
+writes-keeps = record { came = told (codes "ab" ∷ []) Closed; went = told (codes "6162" ∷ []) Closed; is_came = refl; is_went = (refl, refl); flows = writes-flows }
 
 -- so each keeps its flow, as each owes it
-all-owed : ChainedIf letters (reads ∷ writes ∷ []) (told (codes "6162") Closed)
+pub all-owed : ChainedIf letters (reads ∷ writes ∷ []) (told (codes "6162") Closed)
 all-owed = (
   record {
     from = refl;
@@ -66,7 +64,7 @@ all-owed = (
   (sent, [], refl, refl, (λ bytes short. (writes-keeps, tt)), refl),
 )
 
-abbrev finishing : List Node
+abbrev pub finishing : List Node
 finishing = record { member = reads; finds = finds 0 } ∷ record { member = writes; finds = finds 0 } ∷ []
 
 finished : IsJoined letters finishing (told (codes "6162") Closed) []
@@ -83,31 +81,31 @@ whole = (ends letters finishing (told (codes "6162") Closed) [] finished).finish
 
 -- the first node reads hexadecimal digits, and met a byte that is none: it sends the error of stage 1 to the second, which has no stages
 
-abbrev wrong : Told ℕ
+abbrev pub wrong : Told ℕ
 wrong = told (codes "0g") Open
 
-abbrev reason : Plain
+abbrev pub reason : Plain
 reason = FaultReason (StageFault 1 2 1)
 
-abbrev fails : Member
+abbrev pub fails : Member
 fails = record { stages = Unhex ∷ []; from = Host wrong; parts = record { work = Over (Bad 2 1); before = nothing_told } ∷ []; behind = nothing_told; to = Row (Error reason ∷ []) }
 
-abbrev hears : Member
+abbrev pub hears : Member
 hears = record { stages = []; from = Row (Error reason ∷ []); parts = []; behind = nothing_told; to = Host (told [] Open) }
 
-fails-keeps : Keeps fails
+abbrev pub fails-keeps : Keeps fails
 fails-keeps = record { came = told (codes "0g" ∷ []) Open; went = told [] Lost; is_came = refl; is_went = refl; flows = (told (codes "0g" ∷ []) Lost, refl, ([], refl), ([], refl)) }
 
-hears-keeps : Keeps hears
+abbrev pub hears-keeps : Keeps hears
 hears-keeps = record { came = told [] Lost; went = told [] Lost; is_came = refl; is_went = ([], refl); flows = ([], refl) }
 
-abbrev failing : List Node
+abbrev pub failing : List Node
 failing = record { member = fails; finds = finds 0 } ∷ record { member = hears; finds = finds 1 } ∷ []
 
-own : HasCause (finds 0) fails.parts [] reason
+pub own : HasCause (finds 0) fails.parts [] reason
 own = Own (record { from = omega arith; bad = refl })
 
-passed : HasCause (finds 1) [] (reason ∷ []) reason
+pub passed : HasCause (finds 1) [] (reason ∷ []) reason
 passed = Passed [] [] refl
 
 failed : IsJoined wrong failing (told [] Open) (reason ∷ [])
