@@ -15,7 +15,7 @@ use Rattle.ws_joined_laws.specs.Ends.{out_of, ending_of, IsBad}
 use Rattle.ws_joined_laws.specs.Finished.{IsFoundFor, NodesEnd}
 use Rattle.ws_joined_laws.specs.Joined.{Node, SomeFinds}
 use Rattle.ws_joined_laws.specs.Reasons.{Finds}
-use Rattle.ws_joined_laws.specs.RunEnds.{IsReadToEnd, ReadAs, Task, IsDone, Allows, Leaves, EndsSo, FindsSo, RunTells, status_of, IsStatus, Complete, Rejected, Wanting, EachRunTellsItsEnd}
+use Rattle.ws_joined_laws.specs.RunEnds.{IsReadToEnd, ReadAs, Pipeline, IsDone, Allows, Leaves, EndsSo, FindsSo, RunTells, status_of, IsStatus, Complete, Rejected, Wanting, EachRunTellsItsEnd}
 use Rattle.ws_joined_laws.proofs.Finished.{each-run-of-nodes-ends}
 use Rattle.ws_joined_laws.proofs.Joined.{at-all}
 
@@ -38,16 +38,16 @@ leaves (Script n) old new k = k
 leaves LoadFault old new k = k
 leaves TooMuch old new k = k
 
-module _ (task : Task) (old new : Moment) (taken : Told ℕ) (ns : List Node) (gain : Told ℕ) (last : List Plain)
-    (h : RunTells task old new taken ns gain last) where
-  nodes-end : NodesEnd task.abort_after taken ns gain last
-  nodes-end = each-run-of-nodes-ends task.abort_after taken ns gain last h.nodes
+module _ (pipeline : Pipeline) (old new : Moment) (taken : Told ℕ) (ns : List Node) (gain : Told ℕ) (last : List Plain)
+    (h : RunTells pipeline old new taken ns gain last) where
+  nodes-end : NodesEnd pipeline.abort_after taken ns gain last
+  nodes-end = each-run-of-nodes-ends pipeline.abort_after taken ns gain last h.nodes
 
   -- what some node finds is so
-  so : (finds : Finds → Bool) (P : Type 0) → ((n : Node) → FindsSo task old new taken.items gain.items n → finds n.finds ≡ true → P) → SomeFinds finds ns → P
-  so finds P f s = f s.node (at-all (FindsSo task old new taken.items gain.items) s.before s.node s.after (subst (λ q. All (FindsSo task old new taken.items gain.items) q) s.whole h.found)) s.found
+  so : (finds : Finds → Bool) (P : Type 0) → ((n : Node) → FindsSo pipeline old new taken.items gain.items n → finds n.finds ≡ true → P) → SomeFinds finds ns → P
+  so finds P f s = f s.node (at-all (FindsSo pipeline old new taken.items gain.items) s.before s.node s.after (subst (λ q. All (FindsSo pipeline old new taken.items gain.items) q) s.whole h.found)) s.found
 
-  allows : (r : Plain) → IsFoundFor taken ns r → Allows (status_of r) task taken.mark old new taken.items gain.items
+  allows : (r : Plain) → IsFoundFor taken ns r → Allows (status_of r) pipeline taken.mark old new taken.items gain.items
   allows (FaultReason Read) f = so (λ g. g.read_failed) _ (λ n g. g.read) f
   allows (FaultReason TooMuchFault) f = so (λ g. g.too_much) _ (λ n g. g.many) f
   allows (FaultReason Write) f = so (λ g. g.write_failed) _ (λ n g. g.write) f
@@ -63,7 +63,7 @@ module _ (task : Task) (old new : Moment) (taken : Told ℕ) (ns : List Node) (g
   allows (Pair t) f = tt
   allows (Local k) f = tt
 
-  done : gain.mark ≡ Closed → IsDone task old new taken.items gain.items
+  done : gain.mark ≡ Closed → IsDone pipeline old new taken.items gain.items
   done c =
       let a = nodes-end.finished c in
       let w = h.tail.finished c in
@@ -78,7 +78,7 @@ module _ (task : Task) (old new : Moment) (taken : Told ℕ) (ns : List Node) (g
         finished = w.1;
       }
 
-  ends-so : (status : Status) → Allows status task taken.mark old new taken.items gain.items → Leaves status old new → EndsSo status task old new taken.items gain.items taken.mark
+  ends-so : (status : Status) → Allows status pipeline taken.mark old new taken.items gain.items → Leaves status old new → EndsSo status pipeline old new taken.items gain.items taken.mark
   ends-so status a l = record {
     fed = h.head.fed;
     read = h.head.read;
@@ -90,13 +90,13 @@ module _ (task : Task) (old new : Moment) (taken : Told ℕ) (ns : List Node) (g
     finish_kept = l;
   }
 
-  by : (status : Status) → IsStatus gain.mark last status → EndsSo status task old new taken.items gain.items taken.mark
-  by status (Complete c e) = subst (λ s. EndsSo s task old new taken.items gain.items taken.mark) (sym e) (ends-so Done (done c) tt)
+  by : (status : Status) → IsStatus gain.mark last status → EndsSo status pipeline old new taken.items gain.items taken.mark
+  by status (Complete c e) = subst (λ s. EndsSo s pipeline old new taken.items gain.items taken.mark) (sym e) (ends-so Done (done c) tt)
   by status (Rejected r unfinished among e) =
-      subst (λ s. EndsSo s task old new taken.items gain.items taken.mark) (sym e)
+      subst (λ s. EndsSo s pipeline old new taken.items gain.items taken.mark) (sym e)
       (ends-so (status_of r) (allows r (All-contains (IsFoundFor taken ns) last r nodes-end.reasons among)) (leaves (status_of r) old new (h.tail.unfinished unfinished)))
   by status (Wanting unfinished e) =
-      subst (λ s. EndsSo s task old new taken.items gain.items taken.mark) (sym e) (ends-so NoMemory tt (leaves NoMemory old new (h.tail.unfinished unfinished)))
+      subst (λ s. EndsSo s pipeline old new taken.items gain.items taken.mark) (sym e) (ends-so NoMemory tt (leaves NoMemory old new (h.tail.unfinished unfinished)))
 
 pub each-run-tells-its-end : EachRunTellsItsEnd
-each-run-tells-its-end status task old new taken ns gain last h s = by task old new taken ns gain last h status s
+each-run-tells-its-end status pipeline old new taken ns gain last h s = by pipeline old new taken ns gain last h status s

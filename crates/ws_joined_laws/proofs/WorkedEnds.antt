@@ -12,7 +12,7 @@ use Rattle.ws_joined_laws.specs.Ends.{IsBad}
 use Rattle.ws_joined_laws.specs.Finished.{CausesIf, NodesTell}
 use Rattle.ws_joined_laws.specs.Joined.{Node}
 use Rattle.ws_joined_laws.specs.Reasons.{HasCause}
-use Rattle.ws_joined_laws.specs.RunEnds.{Task, FindsSo, EndsSo, Complete, Rejected}
+use Rattle.ws_joined_laws.specs.RunEnds.{Pipeline, FindsSo, EndsSo, Complete, Rejected}
 use Rattle.ws_joined_laws.proofs.RunEnds.{each-run-tells-its-end}
 use Rattle.ws_joined_laws.proofs.Worked.{finds, letters, reads, writes, writes-keeps, all-owed, wrong, reason, fails, hears, fails-keeps, hears-keeps, own, passed, finishing, failing}
 
@@ -21,8 +21,8 @@ use Rattle.ws_joined_laws.proofs.Worked.{finds, letters, reads, writes, writes-k
 abbrev digits : Told ℕ
 digits = told (codes "6162") Closed
 
-abbrev task : Task
-task = record { stages = Hex ∷ []; most = 2; abort_after = Some (pos 4) }
+abbrev pipeline : Pipeline
+pipeline = record { stages = Hex ∷ []; most = 2; abort_after = Some (pos 4) }
 
 abbrev at-first : Moment
 at-first = moment 0 (Some (record { taken = []; left = codes "ab"; ended = false })) 0 (Some false)
@@ -31,7 +31,7 @@ abbrev at-last : Moment
 at-last = moment 0 (Some (record { taken = codes "ab"; left = []; ended = true })) 0 (Some true)
 
 abbrev FoundFine : Node → Type 0
-FoundFine = FindsSo task at-first at-last (codes "ab") (codes "6162")
+FoundFine = FindsSo pipeline at-first at-last (codes "ab") (codes "6162")
 
 reads-found : FoundFine (record { member = reads; finds = finds 0 })
 reads-found = record { read = λ e. absurd (cc); many = λ e. absurd (cc); write = λ e. absurd (cc); abort = λ e. absurd (cc) }
@@ -60,9 +60,9 @@ letters-nodes = record {
   };
 }
 
-letters-end : EndsSo Done task at-first at-last (codes "ab") (codes "6162") Closed
+letters-end : EndsSo Done pipeline at-first at-last (codes "ab") (codes "6162") Closed
 letters-end =
-    each-run-tells-its-end Done task at-first at-last letters finishing digits []
+    each-run-tells-its-end Done pipeline at-first at-last letters finishing digits []
     (record {
       stages = refl;
       nodes = letters-nodes;
@@ -77,8 +77,8 @@ letters-end =
 
 -- the first node's stage is bad, and the second hears of it
 
-abbrev bad-task : Task
-bad-task = record { stages = Unhex ∷ []; most = 2; abort_after = None }
+abbrev bad-pipeline : Pipeline
+bad-pipeline = record { stages = Unhex ∷ []; most = 2; abort_after = None }
 
 abbrev bad-first : Moment
 bad-first = moment 0 (Some (record { taken = []; left = codes "0g1"; ended = false })) 0 (Some false)
@@ -87,7 +87,7 @@ abbrev bad-last : Moment
 bad-last = moment 0 (Some (record { taken = codes "0g"; left = codes "1"; ended = false })) 0 (Some false)
 
 abbrev FoundBad : Node → Type 0
-FoundBad = FindsSo bad-task bad-first bad-last (codes "0g") []
+FoundBad = FindsSo bad-pipeline bad-first bad-last (codes "0g") []
 
 fails-found : FoundBad (record { member = fails; finds = finds 0 })
 fails-found = record { read = λ e. absurd (cc); many = λ e. absurd (cc); write = λ e. absurd (cc); abort = λ e. absurd (cc) }
@@ -125,9 +125,9 @@ bad-nodes = record {
   };
 }
 
-bad-end : EndsSo (Stage 1 2 1) bad-task bad-first bad-last (codes "0g") [] Open
+bad-end : EndsSo (Stage 1 2 1) bad-pipeline bad-first bad-last (codes "0g") [] Open
 bad-end =
-    each-run-tells-its-end (Stage 1 2 1) bad-task bad-first bad-last wrong failing (told [] Open) (reason ∷ [])
+    each-run-tells-its-end (Stage 1 2 1) bad-pipeline bad-first bad-last wrong failing (told [] Open) (reason ∷ [])
     (record {
       stages = refl;
       nodes = bad-nodes;

@@ -30,36 +30,36 @@ ReadAs Closed old new = IsReadToEnd old new
 ReadAs Broken old new = ⊥
 ReadAs m old new = Unit {0}
 
--- what a run may do: its stages, the most bytes that it may take, and after how many bytes of output it is aborted
-pub record Task : Type 0 where
+-- a pipeline, wherever its stages are performed: these, the most bytes of input that it takes, and after how many bytes of output it is aborted
+pub record Pipeline : Type 0 where
   pub stages : List PlanStage
   pub most : ℕ
   pub abort_after : Option ℤ
 
 -- the run is complete: a read answered 0, nothing is left, neither count rose, no more was taken than the run may take, each stage ended fine, the
 -- output gained exactly what comes out of them, and it is finished
-pub record IsDone (task : Task) (old new : Moment) (taken gain : List ℕ) : Type 0 where
+pub record IsDone (pipeline : Pipeline) (old new : Moment) (taken gain : List ℕ) : Type 0 where
   pub ended : IsEnded new.feed
   pub emptied : IsEmpty new.feed
   pub no_fault : NoFault old new
-  pub within : length taken ≤ task.most
-  pub fine : (j : ℕ) → ending_of task.stages j taken Closed ≡ Fine
-  pub whole : out_of task.stages taken Closed ≡ told gain Closed
+  pub within : length taken ≤ pipeline.most
+  pub fine : (j : ℕ) → ending_of pipeline.stages j taken Closed ≡ Fine
+  pub whole : out_of pipeline.stages taken Closed ≡ told gain Closed
   pub finished : Becomes old.finished new.finished
 
 -- where a run may end with a status; after a failed read all that was taken was written, where there are no stages
-abbrev pub Allows : Status → Task → Mark → Moment → Moment → List ℕ → List ℕ → Type 0
-Allows Done task m old new taken gain = IsDone task old new taken gain
-Allows (Stage index code place) task m old new taken gain = IsBad task.stages index code place m taken
-Allows Usage task m old new taken gain = ⊥
-Allows (PlanIs n) task m old new taken gain = ⊥
-Allows ReadFault task m old new taken gain = (task.stages ≡ [] → gain ≡ taken) × Rose old.read_faults new.read_faults
-Allows WriteFault task m old new taken gain = Rose old.write_faults new.write_faults
-Allows Aborted task m old new taken gain = IsAborted task.abort_after gain
-Allows NoMemory task m old new taken gain = Unit {0}
-Allows (Script n) task m old new taken gain = ⊥
-Allows LoadFault task m old new taken gain = ⊥
-Allows TooMuch task m old new taken gain = task.most < length taken
+abbrev pub Allows : Status → Pipeline → Mark → Moment → Moment → List ℕ → List ℕ → Type 0
+Allows Done pipeline m old new taken gain = IsDone pipeline old new taken gain
+Allows (Stage index code place) pipeline m old new taken gain = IsBad pipeline.stages index code place m taken
+Allows Usage pipeline m old new taken gain = ⊥
+Allows (PlanIs n) pipeline m old new taken gain = ⊥
+Allows ReadFault pipeline m old new taken gain = (pipeline.stages ≡ [] → gain ≡ taken) × Rose old.read_faults new.read_faults
+Allows WriteFault pipeline m old new taken gain = Rose old.write_faults new.write_faults
+Allows Aborted pipeline m old new taken gain = IsAborted pipeline.abort_after gain
+Allows NoMemory pipeline m old new taken gain = Unit {0}
+Allows (Script n) pipeline m old new taken gain = ⊥
+Allows LoadFault pipeline m old new taken gain = ⊥
+Allows TooMuch pipeline m old new taken gain = pipeline.most < length taken
 
 -- with any other status than that of a complete run, the output's end is as before
 abbrev pub Leaves : Status → Moment → Moment → Type 0
@@ -68,14 +68,14 @@ Leaves _ old new = KeepsTold old.finished new.finished
 
 -- How a run that took `taken` ends: what the output gained is a first part of what comes out of the stages for it, at most one byte more than the run may
 -- take was taken, and without stages at most 4,096 bytes of it weren't written
-pub record EndsSo (status : Status) (task : Task) (old new : Moment) (taken gain : List ℕ) (mark : Mark) : Type 0 where
+pub record EndsSo (status : Status) (pipeline : Pipeline) (old new : Moment) (taken gain : List ℕ) (mark : Mark) : Type 0 where
   pub fed : Fed old.feed new.feed taken
   pub read : ReadAs mark old new
-  pub first : IsBefore (told gain Open) (out_of task.stages taken mark)
-  pub bound : length taken ≤ task.most + 1
-  pub ahead_by : task.stages ≡ [] → length taken ≤ length gain + 4096
-  pub abort : IsWithinAbort task.abort_after gain
-  pub allowed : Allows status task mark old new taken gain
+  pub first : IsBefore (told gain Open) (out_of pipeline.stages taken mark)
+  pub bound : length taken ≤ pipeline.most + 1
+  pub ahead_by : pipeline.stages ≡ [] → length taken ≤ length gain + 4096
+  pub abort : IsWithinAbort pipeline.abort_after gain
+  pub allowed : Allows status pipeline mark old new taken gain
   pub finish_kept : Leaves status old new
 
 -- What its nodes tell of it
@@ -93,20 +93,20 @@ pub record TailTells (old new : Moment) (gain : Told ℕ) : Type 0 where
   pub unfinished : gain.mark ≢ Closed → KeepsTold old.finished new.finished
 
 -- what a node finds is so; without stages all that was taken before a failed read was written
-pub record FindsSo (task : Task) (old new : Moment) (taken gain : List ℕ) (n : Node) : Type 0 where
-  pub read : n.finds.read_failed ≡ true → (task.stages ≡ [] → gain ≡ taken) × Rose old.read_faults new.read_faults
-  pub many : n.finds.too_much ≡ true → task.most < length taken
+pub record FindsSo (pipeline : Pipeline) (old new : Moment) (taken gain : List ℕ) (n : Node) : Type 0 where
+  pub read : n.finds.read_failed ≡ true → (pipeline.stages ≡ [] → gain ≡ taken) × Rose old.read_faults new.read_faults
+  pub many : n.finds.too_much ≡ true → pipeline.most < length taken
   pub write : n.finds.write_failed ≡ true → Rose old.write_faults new.write_faults
-  pub abort : n.finds.abort_reached ≡ true → IsAborted task.abort_after gain
+  pub abort : n.finds.abort_reached ≡ true → IsAborted pipeline.abort_after gain
 
 -- the nodes of a run, with what they tell of the input and the output. Of a run with workers `ahead_by` asks nothing, since each worker has a stage
-pub record RunTells (task : Task) (old new : Moment) (taken : Told ℕ) (ns : List Node) (gain : Told ℕ) (last : List Plain) : Type 0 where
-  pub stages : all_stages (members ns) ≡ task.stages
-  pub nodes : NodesTell task.abort_after taken ns gain last
-  pub head : HeadTells task.most old new taken
+pub record RunTells (pipeline : Pipeline) (old new : Moment) (taken : Told ℕ) (ns : List Node) (gain : Told ℕ) (last : List Plain) : Type 0 where
+  pub stages : all_stages (members ns) ≡ pipeline.stages
+  pub nodes : NodesTell pipeline.abort_after taken ns gain last
+  pub head : HeadTells pipeline.most old new taken
   pub tail : TailTells old new gain
-  pub ahead_by : task.stages ≡ [] → length taken.items ≤ length gain.items + 4096
-  pub found : All (FindsSo task old new taken.items gain.items) ns
+  pub ahead_by : pipeline.stages ≡ [] → length taken.items ≤ length gain.items + 4096
+  pub found : All (FindsSo pipeline old new taken.items gain.items) ns
 
 -- the status of a run for a reason with which the pipe into its sink was rejected
 abbrev pub status_of : Plain → Status
@@ -125,5 +125,5 @@ pub data IsStatus (finish : Mark) (last : List Plain) (status : Status) : Type 0
 
 abbrev pub EachRunTellsItsEnd : Type 0
 EachRunTellsItsEnd =
-    (status : Status) (task : Task) (old new : Moment) (taken : Told ℕ) (ns : List Node) (gain : Told ℕ) (last : List Plain)
-    → RunTells task old new taken ns gain last → IsStatus gain.mark last status → EndsSo status task old new taken.items gain.items taken.mark
+    (status : Status) (pipeline : Pipeline) (old new : Moment) (taken : Told ℕ) (ns : List Node) (gain : Told ℕ) (last : List Plain)
+    → RunTells pipeline old new taken ns gain last → IsStatus gain.mark last status → EndsSo status pipeline old new taken.items gain.items taken.mark
