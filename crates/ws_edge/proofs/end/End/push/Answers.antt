@@ -1,0 +1,16 @@
+use Rattle.std.proofs.Common.{◌≡◌, ◌+◌, ◌<◌, ◌≤◌, ◌^◌, ◌||◌, ◌++◌, [], ◌∷◌, length, refl, deque_len, deque_capacity, ap, arith}
+use Rattle.ws_edge.proofs.Ends.{counted-more}
+use Rattle.ws_edge.proofs.end.End.push.Goals as goal
+
+pub invariant_of-self-2 : goal.invariant_of-self-2
+invariant_of-self-2 c =
+    let q = c.push_back_reserved.new.self in
+    let room : deque_len c.reserve.new.self + 2 ≤ deque_capacity c.reserve.new.self = c.in_ok-reserve.ensures.ok in
+    let long : deque_len q ≡ length q.items = q.ok.0 in
+    let place : length q.items < deque_capacity q = omega (arith, room, long, c.push_back_reserved.ensures.len, c.push_back_reserved.ensures.capacity) in
+    let more : q.items ≡ c.self.inside.waiting.items ++ c.args.m ∷ [] = rw (c.push_back_reserved.ensures.items, c.reserve.ensures.items) refl in
+    let below = c.if-self-ge-MOST.false in
+    let fewer : c.self.inside.count + 1 < 2 ^ 62 = omega (arith, below) in
+    counted-more c.self.inside.to.sent c.self.inside.waiting.items q.items c.args.m c.self.inside.count _ _ _ c.self.inside.ended _ c.self.invariant
+    more (ap (λ b. c.self.inside.ended || b) c.is_end.ensures)
+    (omega (arith, fewer)) (λ no. (fewer, place))

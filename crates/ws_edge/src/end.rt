@@ -1,0 +1,168 @@
+//! An end of an edge.
+ghost use Rattle.std.specs.Prelude.{◌≡◌, ◌↔◌, false, [], ◌∷◌, ◌++◌, ◌+◌, ◌<◌, ◌≤◌, length, IsTrue, IfOk, OnOk, OnErr, IfSome, IfNone, OnSome};
+ghost use Rattle.ws_steps.specs.PortHistory as messages;
+ghost use Rattle.ws_steps.specs.Queues as queues;
+ghost use Rattle.ws_edge.specs.Edge.{given, PostsFirst, FindsFull, told_last};
+
+use std::alloc::Global;
+use std::collections::VecDeque;
+use std::marker::Model;
+use ws_port::{PostRefused, Receiver, Sender};
+use ws_value::{Message, NoMemory, Plain};
+
+/// How many messages an end takes to post, a last error aside.
+const MOST: u64 = (1 << 62) - 1;
+
+/// What a post of the messages that wait came to.
+#[derive(Clone, Copy)]
+pub struct Posting {
+    /// A message was posted.
+    pub some: bool,
+
+    /// Nothing waits any more.
+    pub all: bool,
+}
+
+/// An end of an edge. Contracts see the two rows as those of their ends, and what waits to be posted, in order.
+///
+/// It has a place for a last error from the beginning, so that a node that finds no memory can still tell its
+/// neighbour.
+#[derive(Drop)]
+pub struct End {
+    from: Receiver,
+    to: Sender,
+    waiting: VecDeque<Message>,
+
+    /// How many messages were given to be posted.
+    count: u64,
+
+    /// A close or an error is among these.
+    ended: bool,
+}
+
+impl Model for End {
+    ghost use Rattle.std.specs.Prelude.{◌++◌, length};
+    ghost use Rattle.std.specs.VecDeque.{deque_capacity};
+    ghost use Rattle.ws_edge.specs.Edge.{AtEdge, IsCounted};
+
+    ghost Value = { AtEdge };
+
+    ghost view = { λ e. record { from = e.from; to = e.to; waiting = e.waiting.items } };
+
+    ghost invariant = { λ e. IsCounted (e.to.sent ++ e.waiting.items) e.count e.ended (length e.waiting.items) (deque_capacity e.waiting) };
+}
+
+/// Whether it is a close or an error.
+fn is_end(m: &Message) -> bool
+    ensures { result ≡ messages.is_end m.now }
+{
+    match m {
+        Message::Pull => false,
+        Message::Chunk(_) => false,
+        Message::Close => true,
+        Message::Error(_) => true,
+    }
+}
+
+impl End {
+    /// The end of an edge that takes from the one row and posts to the other. Nothing waits.
+    pub fn make(alloc: Global, from: Receiver, to: Sender) -> Result<End, NoMemory>
+        requires { to.sent ≡ [] }
+        ensures { IfOk result (λ end. end ≡ record { from = from; to = to; waiting = [] }) }
+    {
+        Ok(End {
+            from,
+            to,
+            waiting: VecDeque::with_capacity(alloc, 4)?,
+            count: 0,
+            ended: false,
+        })
+    }
+
+    /// A message waits, behind those that wait. It is refused for want of memory, and by an end that was given
+    /// 2^62 - 1 messages, which is more than a realm ever posts.
+    pub fn push(&mut self, m: Message) -> Result<(), NoMemory>
+        ensures waits { OnOk result (self.new ≡ record self.old { waiting = self.old.waiting ++ m ∷ [] }) }
+        ensures refused { OnErr result (self.new ≡ self.old) }
+    {
+        if self.count >= MOST {
+            return Err(NoMemory);
+        }
+        self.waiting.reserve(2)?;
+        self.ended |= is_end(&m);
+        self.count += 1;
+        self.waiting.push_back_reserved(m);
+        Ok(())
+    }
+
+    /// Posts what waits, in order, until nothing waits or the row is full.
+    pub fn post(&mut self) -> Posting
+        ensures first { PostsFirst self.old self.new }
+        ensures given { given self.new ≡ given self.old }
+        ensures row { self.new.to.row ≡ self.old.to.row }
+        ensures from { self.new.from ≡ self.old.from }
+        ensures looked { self.old.to.looks ≤ self.new.to.looks }
+        ensures some { IsTrue result.some ↔ (length self.old.to.sent < length self.new.to.sent) }
+        ensures all { result.all ≡ queues.is_empty self.new.waiting }
+        ensures full { result.all ≡ false → FindsFull self.old.to self.new.to }
+    {
+        let mut some = false;
+        'messages: while let Some(m) = self.waiting.pop_front() {
+            if let Err(PostRefused::Full(m)) = self.to.post(m) {
+                self.waiting.push_front_reserved(m);
+                return Posting { some, all: false };
+            }
+            some = true;
+        }
+        Posting { some, all: true }
+    }
+
+    /// Whether nothing waits.
+    pub fn all_posted(&self) -> bool
+        ensures { result ≡ queues.is_empty self.now.waiting }
+    {
+        self.waiting.is_empty()
+    }
+
+    /// Takes the next message. There is none where this call's look found none in the row.
+    pub fn take(&mut self) -> Option<Message>
+        ensures to { self.new.to ≡ self.old.to }
+        ensures waiting { self.new.waiting ≡ self.old.waiting }
+        ensures row { self.new.from.row ≡ self.old.from.row }
+        ensures looked { self.new.from.looks ≡ self.old.from.looks + 1 }
+        ensures taken { IfSome result (λ m. self.new.from.received ≡ self.old.from.received ++ m ∷ []) }
+        ensures found { OnSome result (length self.old.from.received < self.new.from.seen) }
+        ensures none { IfNone result (length self.old.from.received ≡ self.new.from.seen) }
+        ensures untaken { IfNone result (self.new.from.received ≡ self.old.from.received) }
+    {
+        self.from.take()
+    }
+
+    /// An error waits behind all that was given, unless a close or an error was. It takes no memory: a node that
+    /// finds none tells its neighbour so.
+    pub fn tell_last(&mut self, reason: Plain)
+        ensures { self.new ≡ record self.old { waiting = told_last reason self.old } }
+    {
+        if self.ended {
+            return;
+        }
+        self.ended = true;
+        self.count += 1;
+        self.waiting.push_back_reserved(Message::Error(reason));
+    }
+
+    /// The two ends of rows. What waits is lost.
+    pub fn parts(self) -> (Receiver, Sender)
+        ensures from { result.0 ≡ self.from }
+        ensures to { result.1 ≡ self.to }
+    {
+        let End {
+            from,
+            to,
+            waiting: _,
+            count: _,
+            ended: _,
+        } = self;
+        (from, to)
+    }
+}
