@@ -1,11 +1,11 @@
 -- Whether a close or an error is among messages, and whether nothing follows one; and what an end counts of all that it was given.
-use Rattle.std.proofs.Common.{◌≡◌, ℕ, ◌+◌, ◌^◌, ◌<◌, Bool, true, false, ◌||◌, if◌then◌else◌, List, [], ◌∷◌, ◌++◌, length, refl, sym, ap, ◌∙◌, subst, append_assoc, length-append, arith}
+use Rattle.std.proofs.Common.{◌≡◌, ℕ, ◌+◌, ◌^◌, ◌<◌, Bool, true, false, ◌||◌, if◌then◌else◌, List, [], ◌∷◌, ◌++◌, length, refl, sym, ap, ◌∙◌, append-nil, append_assoc, length-append, arith}
 use Rattle.ws_value.specs.declared.value.Message.{Message}
 use Rattle.ws_value.specs.declared.value.Message.TheVariants.{Pull, Chunk, Close, Error}
 use Rattle.ws_value.specs.declared.value.Plain.{Plain}
 use Rattle.ws_steps.specs.Queues.{is_empty}
 use Rattle.ws_steps.specs.PortHistory.{is_end, has_end, ends_last}
-use Rattle.ws_edge.specs.Edge.{AtEdge, given, told_last, IsCounted}
+use Rattle.ws_edge.specs.Edge.{AtEdge, given, last_error, IsCounted}
 
 pub has_end-more : (ms : List Message) (m : Message) → has_end (ms ++ m ∷ []) ≡ has_end ms || is_end m
 has_end-more [] m = grind arith
@@ -32,19 +32,19 @@ ends_last-first (Close ∷ ms) ns l = is_empty-first ms ns l
 ends_last-first (Error r ∷ ms) ns l = is_empty-first ms ns l
 
 -- nothing follows a close or an error once the last error is told, if nothing did before
-pub ends_last-told : (reason : Plain) (e : AtEdge) → ends_last (given e) ≡ true → ends_last (e.to.sent ++ told_last reason e) ≡ true
+pub ends_last-told : (reason : Plain) (e : AtEdge) → ends_last (given e) ≡ true → ends_last (given e ++ last_error reason e) ≡ true
 ends_last-told reason e h = by (has_end (given e)) refl
   where
-    by : (b : Bool) → has_end (given e) ≡ b → ends_last (e.to.sent ++ (if b then e.waiting else e.waiting ++ Error reason ∷ [])) ≡ true
-    by true f = h
-    by false f = subst (λ ms. ends_last ms ≡ true) (append_assoc e.to.sent e.waiting (Error reason ∷ [])) (ends_last-more (given e) (Error reason) f h)
+    by : (b : Bool) → has_end (given e) ≡ b → ends_last (given e ++ (if b then [] else Error reason ∷ [])) ≡ true
+    by true f = ap ends_last (append-nil (given e)) ∙ h
+    by false f = ends_last-more (given e) (Error reason) f h
 
-pub has_end-told : (reason : Plain) (e : AtEdge) → has_end (e.to.sent ++ told_last reason e) ≡ true
+pub has_end-told : (reason : Plain) (e : AtEdge) → has_end (given e ++ last_error reason e) ≡ true
 has_end-told reason e = by (has_end (given e)) refl
   where
-    by : (b : Bool) → has_end (given e) ≡ b → has_end (e.to.sent ++ (if b then e.waiting else e.waiting ++ Error reason ∷ [])) ≡ true
-    by true f = f
-    by false f = ap has_end (sym (append_assoc e.to.sent e.waiting (Error reason ∷ []))) ∙ has_end-more (given e) (Error reason) ∙ grind arith
+    by : (b : Bool) → has_end (given e) ≡ b → has_end (given e ++ (if b then [] else Error reason ∷ [])) ≡ true
+    by true f = ap has_end (append-nil (given e)) ∙ f
+    by false f = has_end-more (given e) (Error reason) ∙ grind arith
 
 or-right : (b d : Bool) → b || d ≡ false → d ≡ false
 or-right true d e = absurd (cc)

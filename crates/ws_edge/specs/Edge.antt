@@ -30,9 +30,9 @@ FindsFull old new = (old.looks < new.looks) × (length new.sent ≡ new.seen + 8
 abbrev pub FindsNone : Taken → Taken → Type 0
 FindsNone old new = (old.looks < new.looks) × (length new.received ≡ new.seen)
 
--- what waits once the last error is told: that behind all else, unless a close or an error was given before
-abbrev pub told_last : Plain → AtEdge → List Message
-told_last reason e = if has_end (given e) then e.waiting else e.waiting ++ Error reason ∷ []
+-- the last error, where neither a close nor an error was given before
+abbrev pub last_error : Plain → AtEdge → List Message
+last_error reason e = if has_end (given e) then [] else Error reason ∷ []
 
 -- What an end keeps of all that it was given: how many messages that are, and whether a close or an error is among them. Until
 -- then there is a place for a last error, and fewer than 2^62 were given
@@ -42,3 +42,15 @@ pub record IsCounted (all : List Message) (count : ℕ) (ended : Bool) (waiting 
   pub ended_is : ended ≡ has_end all
   pub place : ended ≡ false → waiting < capacity
   pub fewer : ended ≡ false → count < 2 ^ 62
+
+-- From one moment of an end to a later one: this was taken, and more was given to be posted. Of what waited and was given a first
+-- part was posted
+pub record IsLater (old new : AtEdge) (taken more : List Message) : Type 0 where
+  pub from_row : new.from.row ≡ old.from.row
+  pub to_row : new.to.row ≡ old.to.row
+  pub received : new.from.received ≡ old.from.received ++ taken
+  pub gives : given new ≡ given old ++ more
+  pub posted : List Message
+  pub sent : new.to.sent ≡ old.to.sent ++ posted
+  pub from_looks : old.from.looks ≤ new.from.looks
+  pub to_looks : old.to.looks ≤ new.to.looks

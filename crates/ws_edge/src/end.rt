@@ -2,7 +2,7 @@
 ghost use Rattle.std.specs.Prelude.{◌≡◌, ◌↔◌, false, [], ◌∷◌, ◌++◌, ◌+◌, ◌<◌, ◌≤◌, length, IsTrue, IfOk, OnOk, OnErr, IfSome, IfNone, OnSome};
 ghost use Rattle.ws_steps.specs.PortHistory as messages;
 ghost use Rattle.ws_steps.specs.Queues as queues;
-ghost use Rattle.ws_edge.specs.Edge.{given, PostsFirst, FindsFull, told_last};
+ghost use Rattle.ws_edge.specs.Edge.{given, PostsFirst, FindsFull, last_error};
 
 use std::alloc::Global;
 use std::collections::VecDeque;
@@ -49,7 +49,8 @@ impl Model for End {
 
     ghost view = { λ e. record { from = e.from; to = e.to; waiting = e.waiting.items } };
 
-    ghost invariant = { λ e. IsCounted (e.to.sent ++ e.waiting.items) e.count e.ended (length e.waiting.items) (deque_capacity e.waiting) };
+    ghost invariant = { λ e. IsCounted (e.to.sent ++ e.waiting.items) e.count e.ended
+        (length e.waiting.items) (deque_capacity e.waiting) };
 }
 
 /// Whether it is a close or an error.
@@ -80,7 +81,7 @@ impl End {
     }
 
     /// A message waits, behind those that wait. It is refused for want of memory, and by an end that was given
-    /// 2^62 - 1 messages, which is more than a realm ever posts.
+    /// 2^62 - 1 messages, to which no realm comes: so fewer than 2^62 were posted wherever one waits.
     pub fn push(&mut self, m: Message) -> Result<(), NoMemory>
         ensures waits { OnOk result (self.new ≡ record self.old { waiting = self.old.waiting ++ m ∷ [] }) }
         ensures refused { OnErr result (self.new ≡ self.old) }
@@ -141,7 +142,7 @@ impl End {
     /// An error waits behind all that was given, unless a close or an error was. It takes no memory: a node that
     /// finds none tells its neighbour so.
     pub fn tell_last(&mut self, reason: Plain)
-        ensures { self.new ≡ record self.old { waiting = told_last reason self.old } }
+        ensures { self.new ≡ record self.old { waiting = self.old.waiting ++ last_error reason self.old } }
     {
         if self.ended {
             return;
