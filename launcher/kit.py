@@ -6,7 +6,7 @@ import subprocess
 import exits
 
 # The kit with which everything was proved last, and its logic: what checks a proof. Kits of several names have the same logic.
-NAME, LOGIC = "rattle-kit-13b", "dac8208d650f15bf"
+NAME, LOGIC = "rattle-kit-13f", "dac8208d650f15bf"
 
 
 def said(word):

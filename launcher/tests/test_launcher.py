@@ -401,7 +401,7 @@ class Launcher(unittest.TestCase):
         self.assertEqual(len(re.findall("^streams: rt is of rattle-kit-99, which has the same logic as .*$", ran.stderr.decode(), re.MULTILINE)), 1, ran.stderr)
 
     def test_a_kit_with_another_logic(self):
-        for version in ("rattle-kit-99 logic 0", "rattle-kit-13b logic 0", "rattle-kit-13b"):
+        for version in ("rattle-kit-99 logic 0", "rattle-kit-13f logic 0", "rattle-kit-13f"):
             self.set("version", version)
             self.assert_ended(self.run_streams("run"), 78, f"^streams: rt is of {version}, and this is proved with logic .*\n$")
         self.set("version")
