@@ -18,7 +18,9 @@ use ws_calls::{perform_call, perform_enqueue, perform_job, settle_done};
 use ws_prepare::prepare;
 use ws_steps::{Call, Event, Reply};
 use ws_tables::Tables;
-use ws_value::{HostId, NoMemory, Outcome, Plain, PortId, PromiseId, StreamId, TeeId, Value};
+use ws_value::{
+    HostId, Message, NoMemory, Outcome, Plain, PortId, PromiseId, StreamId, TeeId, Value,
+};
 
 /// The most calls and jobs of a realm.
 const OLDEST: u64 = 1 << 62;
@@ -136,6 +138,24 @@ impl Realm {
         self.prepare()?;
         self.prepared = false;
         Ok(perform_enqueue(&mut self.tables, i, chunk))
+    }
+
+    /// Performs `Call::Deliver`, as each message of a port meets it. Whether there is such a port: else the call throws.
+    /// What is delivered to one that isn't entangled any more reaches nothing. A refusal changes nothing and drops the
+    /// message: who would have it back makes the call, or prepares before.
+    pub fn deliver(&mut self, c: PortId, message: Message) -> Result<bool, Why>
+        ensures done { IfOk result (λ done. (done ≡ true) ↔ (run.reply_to (call.Deliver c message) self.old.slots ≡ reply.Done)) }
+        ensures slots { OnOk result (self.new.slots ≡ run.after_call (call.Deliver c message) self.old.slots) }
+        ensures spent { (result ≡ Err why.Spent) ↔ (self.old.slots.age ≡ oldest) }
+        ensures untouched { OnErr result (self.new ≡ self.old) }
+        ensures prepared { self.old.prepared ≡ true → IsOk result }
+    {
+        self.prepare()?;
+        self.prepared = false;
+        Ok(matches!(
+            perform_call(&mut self.tables, Call::Deliver(c, message)),
+            Reply::Done
+        ))
     }
 
     /// Performs `Call::Settle` with `Answer::Ok` without making a call and a reply of it, as each chunk meets it.
