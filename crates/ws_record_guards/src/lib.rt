@@ -4,6 +4,7 @@
 #![tactic(auto)]
 
 pub mod byte_streams;
+pub mod edges;
 pub mod pipes;
 pub mod plans;
 pub mod ports;
