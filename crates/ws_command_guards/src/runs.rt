@@ -1,9 +1,11 @@
 //! Runs of a plan.
-ghost use Rattle.std.specs.Prelude.{IfOk};
+ghost use Rattle.std.specs.Prelude.{IfOk, None};
 ghost use Rattle.ws_io.specs.Moment.{moment};
 ghost use Rattle.ws_runner.specs.Ends.{Ends, EndsAs};
 ghost use Rattle.ws_runner.specs.Opening.{IsAccepted};
+ghost use Rattle.ws_runner.specs.Nodes.{MiddleGoes, TailGoes};
 ghost use Rattle.ws_runner.specs.Past.{HasCounts, IsNew};
+ghost use Rattle.ws_runner.specs.Shares.{whole_of};
 ghost use Rattle.ws_runner.specs.Turns.{TurnIs};
 ghost use Rattle.ws_runner.specs.Went.{Went};
 
@@ -11,7 +13,7 @@ use std::alloc::Global;
 use std::sync::Wait;
 use ws_io::{Sink, Source, Status};
 use ws_realm::NoMemory;
-use ws_runner::{Turn, Whole};
+use ws_runner::{Middle, Tail, Turn, Whole};
 use ws_stages::Plan;
 
 /// Runs a plan.
@@ -34,7 +36,7 @@ pub fn run_nodes<R: Wait, S: Source, K: Sink>(
 /// A node of a run of this plan.
 pub fn make(alloc: Global, plan: &Plan) -> Result<Whole, NoMemory>
     requires { IsAccepted plan.now }
-    ensures { IfOk result (IsNew plan.now) }
+    ensures { IfOk result (IsNew (whole_of plan.now) 0 plan.now.abort_after) }
 {
     Whole::make(alloc, plan)
 }
@@ -61,4 +63,28 @@ pub fn status(whole: &Whole) -> Option<Status>
     ensures { EndsAs result whole.now }
 {
     whole.status()
+}
+
+/// One turn of a worker's node.
+pub fn middle_turn(middle: &mut Middle, alloc: Global) -> Turn
+    ensures went { MiddleGoes middle.old middle.new }
+    ensures turn { TurnIs result middle.old middle.new }
+{
+    middle.turn(alloc)
+}
+
+/// One turn of the last node.
+pub fn tail_turn<K: Sink>(tail: &mut Tail, alloc: Global, output: &mut K) -> Turn
+    ensures went { TailGoes (moment 0 None (K.faults output.old) (K.finished output.old))
+        (moment 0 None (K.faults output.new) (K.finished output.new)) (K.got output.old) (K.got output.new) tail.old tail.new }
+    ensures turn { TurnIs result tail.old tail.new }
+{
+    tail.turn(alloc, output)
+}
+
+/// How the last node of a run with workers ends.
+pub fn tail_status(tail: &Tail) -> Option<Status>
+    ensures { EndsAs result tail.now }
+{
+    tail.status()
 }

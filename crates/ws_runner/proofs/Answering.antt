@@ -1,7 +1,6 @@
 -- What a node does as its sink is written and closed, and what it settles at once.
-use Rattle.std.proofs.Common.{◌≡◌, ◌≢◌, ◌+◌, ◌-◌, ◌<◌, ◌≤◌, ◌^◌, ◌==◌, ℕ, zero, suc, true, false, List, [], ◌∷◌, ◌++◌, length, Option, Some, None, refl, sym, ap, ◌∙◌, subst, append-nil, length-append, arith}
+use Rattle.std.proofs.Common.{◌≡◌, ◌≢◌, ◌+◌, ◌-◌, ◌≤◌, ◌==◌, ℕ, zero, suc, true, false, List, [], ◌∷◌, ◌++◌, length, Option, Some, None, refl, sym, ap, ◌∙◌, subst, append-nil, length-append, arith}
 use Rattle.std.specs.Prelude.{slice_get}
-use Rattle.std.proofs.lemmas.Bool.{and_parts}
 use Rattle.std.proofs.lemmas.List.{length-map}
 use Rattle.std.proofs.lemmas.List.Elements.{All-nil, All-cons}
 use Rattle.ws_value.specs.declared.fault.Fault.TheVariants.{Abort as AbortFault}
@@ -39,9 +38,10 @@ use Rattle.ws_runner.specs.declared.node.Node.{Node}
 use Rattle.ws_runner.specs.declared.node.Output.{Output}
 use Rattle.ws_runner.specs.declared.node.Output.TheVariants as output
 use Rattle.ws_runner.specs.Moves.{Asks, with_realm, Shown, shut, fault_of, Fails, fails, settles, triggers, nearer, draws_near, draws_by, had_by, written, Untouched, Writes, WroteAll, WroteLess, WroteNone, Reached, Finishes, FinishedWell, FinishedBadly, FinishedNot, Settles, is_writable}
-use Rattle.ws_runner.specs.Node.{coming, in_bytes, is_reached, lies_in, lying, nothing_yet, parts, stages_in, works_in}
+use Rattle.ws_runner.specs.Messages.{is_fair_reason}
+use Rattle.ws_runner.specs.Node.{coming, feeds_edge, in_bytes, is_edge, is_reached, lies_in, lying, nothing_yet, parts, stages_in, works_in}
 use Rattle.ws_runner.proofs.Staged.{same-length}
-use Rattle.ws_runner.specs.Past.{IsCause, OneAtMost, ArePushed, HasOne, Led, Since, may_have}
+use Rattle.ws_runner.specs.Past.{IsCause, OneAtMost, Own, ArePushed, HasOne, Led, Since, is_shut, may_have}
 use Rattle.ws_runner.specs.Went.{AbortGoes, OutputGoes}
 use Rattle.ws_runner.proofs.Called.{may-settle}
 use Rattle.ws_runner.proofs.Entries.{called-longer}
@@ -51,8 +51,9 @@ use Rattle.ws_runner.proofs.Handled.{Handled, shows}
 use Rattle.ws_runner.proofs.Handing.{lies_to, unheard-lies, one-heard}
 use Rattle.ws_runner.proofs.Ones.{all-more}
 use Rattle.ws_runner.proofs.Putting.{AfterQuiet, asks-quietly, quiet-then, settle-quiet}
-use Rattle.ws_runner.proofs.Sinking.{count-works, abort-less, abort-nearer, abort-same, heard-out, keeps-told, nearer_by, one-stages, open-fails, output-alone, piece-short, shut-shut, shut-stays, signal-same, sunk}
-use Rattle.ws_runner.proofs.Since.{AfterEvent, MayAsk}
+use Rattle.ws_runner.proofs.Sinking.{count-works, abort-less, abort-nearer, abort-same, heard-out, keeps-told, nearer_by, one-stages, open-fails, output-alone, shut-kind, shut-shut, shut-stays, signal-same, sunk, to-sink}
+use Rattle.ws_runner.proofs.Quiet.{IsNoPost, ends-as}
+use Rattle.ws_runner.proofs.Since.{AfterEvent, MayAsk, own-failed}
 use Rattle.ws_runner.proofs.Unheard.{at-there}
 
 -- how an open output goes on, and one that was shut
@@ -63,6 +64,7 @@ output-open output.Open gain old new e calm kept = (refl, calm, kept)
 output-open output.Finished gain old new e calm kept = absurd (cc)
 output-open output.Failed gain old new e calm kept = absurd (cc)
 output-open output.Aborted gain old new e calm kept = absurd (cc)
+output-open output.Edge gain old new e calm kept = absurd (cc)
 
 output-fails : (o : Output) (gain : List ℕ) (old new : Moment) → o ≡ output.Open → Rose old.write_faults new.write_faults → KeepsTold old.finished new.finished
     → OutputGoes o (shut o) gain Lost old new
@@ -70,24 +72,36 @@ output-fails output.Open gain old new e rose kept = (refl, rose, kept)
 output-fails output.Finished gain old new e rose kept = absurd (cc)
 output-fails output.Failed gain old new e rose kept = absurd (cc)
 output-fails output.Aborted gain old new e rose kept = absurd (cc)
+output-fails output.Edge gain old new e rose kept = absurd (cc)
 
 output-finishes : (o : Output) (old new : Moment) → o ≡ output.Open → new.write_faults ≡ old.write_faults → Becomes old.finished new.finished → OutputGoes o output.Finished [] Closed old new
 output-finishes output.Open old new e calm done = (refl, calm, done)
 output-finishes output.Finished old new e calm done = absurd (cc)
 output-finishes output.Failed old new e calm done = absurd (cc)
 output-finishes output.Aborted old new e calm done = absurd (cc)
+output-finishes output.Edge old new e calm done = absurd (cc)
 
 output-aborts : (o : Output) (old : Moment) → o ≡ output.Open → OutputGoes o output.Aborted [] Lost old old
 output-aborts output.Open old e = (refl, refl, keeps-told old.finished)
 output-aborts output.Finished old e = absurd (cc)
 output-aborts output.Failed old e = absurd (cc)
 output-aborts output.Aborted old e = absurd (cc)
+output-aborts output.Edge old e = absurd (cc)
 
 writable-open : (o : Output) → is_writable o ≡ true → o ≡ output.Open
 writable-open output.Open e = refl
 writable-open output.Finished e = absurd (cc)
 writable-open output.Failed e = absurd (cc)
 writable-open output.Aborted e = absurd (cc)
+writable-open output.Edge e = absurd (cc)
+
+-- without stages and an edge the output may be written
+may-write : (o : Output) (abort : Option Abort) → feeds_edge o ≡ false → may_have [] o abort ≡ true → is_writable o ≡ true
+may-write output.Open abort not_edge h = refl
+may-write output.Finished abort not_edge h = absurd (cc)
+may-write output.Failed abort not_edge h = absurd (cc)
+may-write output.Aborted abort not_edge h = absurd (cc)
+may-write output.Edge abort not_edge h = absurd (cc)
 
 had-less : (ws : List State) (count ahead : ℕ) → had_by ws count ahead ≤ ahead
 had-less [] count ahead = omega arith
@@ -98,13 +112,21 @@ had-counts [] count ahead e = omega arith
 had-counts (w ∷ ws) count ahead e = absurd (cc)
 
 -- why an output fails
-pub caused : (n : Node) → n.exit.output ≢ output.Open → (n.exit.output ≡ output.Aborted → is_reached n.exit.abort ≡ true) → IsCause n (FaultReason (fault_of n.exit.output))
-caused n closed reached = by n.exit.output refl where
+pub caused : (n : Node) → feeds_edge n.exit.output ≡ false → n.exit.output ≢ output.Open → (n.exit.output ≡ output.Aborted → is_reached n.exit.abort ≡ true) → IsCause n (FaultReason (fault_of n.exit.output))
+caused n not_edge closed reached = by n.exit.output refl where
   by : (o : Output) → n.exit.output ≡ o → IsCause n (FaultReason (fault_of o))
   by output.Open e = absurd (closed e)
-  by output.Finished e = (λ f. cc, λ f. cc)
-  by output.Failed e = (λ f. cc, λ f. cc)
-  by output.Aborted e = reached e
+  by output.Finished e = Own (ap (λ (x : Output). is_shut x) e)
+  by output.Failed e = Own (ap (λ (x : Output). is_shut x) e)
+  by output.Aborted e = Own (reached e)
+  by output.Edge e = absurd (let f : feeds_edge n.exit.output ≡ true = ap (λ (x : Output). feeds_edge x) e in cc)
+
+fair-fault : (o : Output) → is_fair_reason (FaultReason (fault_of o)) ≡ true
+fair-fault output.Open = refl
+fair-fault output.Finished = refl
+fair-fault output.Failed = refl
+fair-fault output.Aborted = refl
+fair-fault output.Edge = refl
 
 -- the abort comes nearer by so many bytes, and where it is reached its signal is triggered
 
@@ -127,22 +149,23 @@ may-trigger : (shape : Shape) (past : List Entry) (n : Node) (y : Abort) → is_
 may-trigger shape past n y reached =
     record {
       is_own = tt;
-      failed = All-cons (IsCause n) (FaultReason AbortFault) [] reached (All-nil (IsCause n));
+      clones = refl;
+      failed = own-failed shape n (triggers y) (All-cons (IsCause n) (FaultReason AbortFault) [] (Own reached) (All-nil (IsCause n)));
       closes = λ id e c. absurd (cc);
       flushes = λ id i e c first last w at. absurd (cc);
     }
 
 module _ (shape : Shape) (past : List Entry) (id : HostId) (call : HostCall) (is : slice_get (called past) id.0 ≡ Some call) where
   -- a call is settled well; and badly, with a cause
-  well : (n b : Node) → Led shape past n → (call ≡ Close n.exit.sink → n.exit.output ≡ output.Finished) → ((s : StreamId) → call ≡ Flush s → ⊥) → Asks (settles id) n b → AfterQuiet shape past n b
+  well : (n b : Node) → Led shape past n → (call ≡ Close n.exit.sink → feeds_edge n.exit.output ≡ false → n.exit.output ≡ output.Finished) → ((s : StreamId) → call ≡ Flush s → ⊥) → Asks (settles id) n b → AfterQuiet shape past n b
   well n b led close flush asks =
-      asks-quietly shape past n b (settles id) (settle-quiet shape id AnswerOk) led (may-settle shape past n id call is AnswerOk (All-nil (IsCause n)) (λ c x. close c) (λ s f. absurd (flush s f))) asks
+      asks-quietly shape past n b (settles id) tt (settle-quiet shape id AnswerOk) led (may-settle shape past n id call is AnswerOk (All-nil (IsCause n)) tt (λ c x feeds. close c feeds) (λ s f. absurd (flush s f))) asks
 
-  badly : (n b : Node) → Led shape past n → n.exit.output ≢ output.Open → (n.exit.output ≡ output.Aborted → is_reached n.exit.abort ≡ true) → Asks (fails id (fault_of n.exit.output)) n b → AfterQuiet shape past n b
-  badly n b led closed reached asks =
+  badly : (n b : Node) → feeds_edge n.exit.output ≡ false → Led shape past n → n.exit.output ≢ output.Open → (n.exit.output ≡ output.Aborted → is_reached n.exit.abort ≡ true) → Asks (fails id (fault_of n.exit.output)) n b → AfterQuiet shape past n b
+  badly n b not_edge led closed reached asks =
       let x = AnswerFail (FaultReason (fault_of n.exit.output)) in
-      asks-quietly shape past n b (Settle id x) (settle-quiet shape id x) led
-      (may-settle shape past n id call is x (All-cons (IsCause n) (FaultReason (fault_of n.exit.output)) [] (caused n closed reached) (All-nil (IsCause n))) (λ c e. absurd (cc)) (λ s f e. absurd (cc))) asks
+      asks-quietly shape past n b (Settle id x) tt (settle-quiet shape id x) led
+      (may-settle shape past n id call is x (All-cons (IsCause n) (FaultReason (fault_of n.exit.output)) [] (caused n not_edge closed reached) (All-nil (IsCause n))) (fair-fault n.exit.output) (λ c e feeds. absurd (cc)) (λ s f e. absurd (cc))) asks
 
 module _ (rf : ℕ) (feed : Option Feed) (p q : List ℕ → Type 0) (shape : Shape) (past : List Entry) (a : Node) (realm : SeenRealm) (id : HostId) (b : Node) (old new : Shown) (since : Since shape past a)
     (goes : a.core.stopped ≡ None) where
@@ -153,20 +176,24 @@ module _ (rf : ℕ) (feed : Option Feed) (p q : List ℕ → Type 0) (shape : Sh
   further = past ++ Heard ∷ []
 
   -- of the sink, to which the last link goes
-  module _ (sink_link : ℕ) (is_last : sink_link ≡ count_in shape) where
+  module _ (not_edge : feeds_edge a.exit.output ≡ false) (sink_link : ℕ) (is_last : sink_link ≡ count_in shape) where
     module _ (call : HostCall) (t : Told Value) (event : AfterEvent shape past a realm (Host id call))
         (heard : (k : ℕ) → k ≤ count_in shape → hears_in shape k (Host id call) ≡ only_at sink_link t k) where
       -- once the output isn't open, nothing is said of what is behind the host without stages
-      one-shut : (k : ℕ) (x : Option Abort) (o : Output) (after : AfterQuiet shape further (record was { entrance = record was.entrance { ahead = k }; exit = record was.exit { abort = x; output = o } }) b) → o ≢ output.Open → k ≡ a.entrance.ahead → HasOne b
-      one-shut k x o after closed same = by a.core.stages.items refl where
+      one-shut : (k : ℕ) (x : Option Abort) (o : Output) (after : AfterQuiet shape further (record was { entrance = record was.entrance { ahead = k }; exit = record was.exit { abort = x; output = o } }) b) → feeds_edge o ≡ false → o ≢ output.Open → k ≡ a.entrance.ahead → HasOne b
+      one-shut k x o after no_edge closed same = by a.core.stages.items refl where
         b-stages : b.core.stages.items ≡ a.core.stages.items
         b-stages = ap (λ (n : Node). n.core.stages.items) after.only.is
 
         by : (ws : List State) → a.core.stages.items ≡ ws → HasOne b
-        by [] e = λ h.
+        by [] e = λ fed h.
+            let o_is : b.exit.output ≡ o = ap (λ (n : Node). n.exit.output) after.only.is in
             let f : may_have [] b.exit.output b.exit.abort ≡ true = subst (λ (s : List State). may_have s b.exit.output b.exit.abort ≡ true) (b-stages ∙ e) h in
-            absurd (closed (sym (ap (λ (n : Node). n.exit.output) after.only.is) ∙ writable-open b.exit.output ((and_parts (is_writable b.exit.output) _ f).0)))
-        by (u ∷ us) e = one-stages shape past a realm since goes sink_link is_last id call t event heard b u us e (b-stages ∙ e) (ap (λ (n : Node). n.entrance.ahead) after.only.is ∙ same) (λ n o. after.one n o)
+            let g : is_writable b.exit.output ≡ true = may-write b.exit.output b.exit.abort (ap (λ (z : Output). feeds_edge z) o_is ∙ no_edge) f in
+            absurd (closed (sym o_is ∙ writable-open b.exit.output g))
+        by (u ∷ us) e =
+            one-stages shape past a realm since goes sink_link is_last id call t event heard b u us e (b-stages ∙ e) (ap (λ (n : Node). n.entrance.ahead) after.only.is ∙ same)
+            (ap (λ (n : Node). n.entrance.input) after.only.is) (λ n o. after.one n o)
 
       lost-out : (x : Told (List ℕ)) → IsShortOf (told [] Lost) (lies_to x a sink_link)
       lost-out x = ((lies_to x a sink_link).items, refl)
@@ -176,12 +203,12 @@ module _ (rf : ℕ) (feed : Option Feed) (p q : List ℕ → Type 0) (shape : Sh
       refused shut_already untouched asks =
           let o = shut a.exit.output in
           let same = shut-stays a.exit.output shut_already in
-          let led = led-output shape further was o (λ h. same) (λ e. since.led.aborts (sym same ∙ e)) event.led in
-          let after = badly shape further id call event.its (record was { exit = record was.exit { output = o } }) b led (shut-shut a.exit.output) (λ e. since.led.aborts (sym same ∙ e)) asks in
+          let led = led-output shape further was o (ap (λ (z : Output). feeds_edge z) same) (λ h. same) (λ e. since.led.aborts (sym same ∙ e)) event.led in
+          let after = badly shape further id call event.its (record was { exit = record was.exit { output = o } }) b (shut-kind a.exit.output not_edge) led (shut-shut a.exit.output) (λ e. since.led.aborts (sym same ∙ e)) asks in
           rw untouched.shown
-          (sunk shape past a realm since goes sink_link is_last id call t event heard b a.entrance.ahead a.exit.abort o after (told [] Lost) lost-out rf feed old old p q [] Lost untouched.gained ([], refl) (λ e. omega arith)
-          (subst (λ (z : Output). OutputGoes a.exit.output z [] Lost (shows rf feed old) (shows rf feed old)) (sym same) (output-alone a.exit.output [] Lost (shows rf feed old) shut_already refl))
-          (abort-same a.exit.abort [] o) (one-shut a.entrance.ahead a.exit.abort o after (shut-shut a.exit.output) refl))
+          (sunk shape past a realm since goes sink_link is_last id call t event heard b a.entrance.ahead a.exit.abort o after (told [] Lost) lost-out not_edge rf feed old old p q [] Lost untouched.gained ([], refl) (λ e. omega arith)
+          (subst (λ (z : Output). OutputGoes a.exit.output z [] Lost (shows rf feed old) (shows rf feed old)) (sym same) (output-alone a.exit.output [] Lost (shows rf feed old) not_edge shut_already refl))
+          (abort-same a.exit.abort [] o) (one-shut a.entrance.ahead a.exit.abort o after (shut-kind a.exit.output not_edge) (shut-shut a.exit.output) refl))
 
       -- it fails as it is asked for this, of which some was written
       broken : (went : Told (List ℕ)) (gain : List ℕ) → a.exit.output ≡ output.Open → Gains p q gain → Rose old.faults new.faults → KeepsTold old.finished new.finished → Fails id was b
@@ -189,15 +216,15 @@ module _ (rf : ℕ) (feed : Option Feed) (p q : List ℕ → Type 0) (shape : Sh
           → (a.core.stages.items ≡ [] → a.entrance.ahead ≤ length gain + a.entrance.ahead) → AbortGoes a.exit.abort a.exit.abort went.items gain (shut a.exit.output) → Handled shape a b (shows rf feed old) (shows rf feed new) p q
       broken went gain is gained rose kept asks there written ahead abort =
           let o = shut a.exit.output in
-          let led = led-output shape further was o (λ h. absurd (h is)) (λ e. absurd (let f = open-fails a.exit.output is in cc)) event.led in
-          let after = badly shape further id call event.its (record was { exit = record was.exit { output = o } }) b led (shut-shut a.exit.output) (λ e. absurd (let f = open-fails a.exit.output is in cc)) asks in
-          sunk shape past a realm since goes sink_link is_last id call t event heard b a.entrance.ahead a.exit.abort o after went there rf feed old new p q gain Lost gained written ahead
-          (output-fails a.exit.output gain (shows rf feed old) (shows rf feed new) is rose kept) abort (one-shut a.entrance.ahead a.exit.abort o after (shut-shut a.exit.output) refl)
+          let led = led-output shape further was o (shut-kind a.exit.output not_edge ∙ sym not_edge) (λ h. absurd (h is)) (λ e. absurd (let f = open-fails a.exit.output is in cc)) event.led in
+          let after = badly shape further id call event.its (record was { exit = record was.exit { output = o } }) b (shut-kind a.exit.output not_edge) led (shut-shut a.exit.output) (λ e. absurd (let f = open-fails a.exit.output is in cc)) asks in
+          sunk shape past a realm since goes sink_link is_last id call t event heard b a.entrance.ahead a.exit.abort o after went there not_edge rf feed old new p q gain Lost gained written ahead
+          (output-fails a.exit.output gain (shows rf feed old) (shows rf feed new) is rose kept) abort (one-shut a.entrance.ahead a.exit.abort o after (shut-kind a.exit.output not_edge) (shut-shut a.exit.output) refl)
 
     -- what the sink of the last link is told
     by-sink : (t : Told Value) (k : ℕ) → only_at (count_in shape) (by_sink shape.target t) k ≡ only_at sink_link t k
     by-sink t k =
-        ap (λ (target : Target). only_at (count_in shape) (by_sink target t) k) since.led.is_of.into ∙ ap (λ (n : ℕ). only_at n t k) (sym is_last)
+        ap (λ (target : Target). only_at (count_in shape) (by_sink target t) k) (to-sink shape.target a.exit since.led.is_of.into not_edge).0 ∙ ap (λ (n : ℕ). only_at n t k) (sym is_last)
 
     heard-write : (v : Value) (k : ℕ) → k ≤ count_in shape → hears_in shape k (Host id (Write a.exit.sink v)) ≡ only_at sink_link (told (v ∷ []) MayCome) k
     heard-write v k less =
@@ -222,9 +249,6 @@ module _ (rf : ℕ) (feed : Option Feed) (p q : List ℕ → Type 0) (shape : Sh
       out : (x : Told (List ℕ)) → IsShortOf (then_told (told (piece ∷ []) MayCome) (lies_to x was sink_link)) (lies_to x a sink_link)
       out = heard-out shape past a realm since goes sink_link is_last id call one_told event heard
 
-      short-piece : a.exit.output ≡ output.Open → length piece < 2 ^ 25
-      short-piece is = piece-short shape past a realm since goes sink_link is_last piece (lies_to (coming a sink_link) was sink_link) is (out (coming a sink_link))
-
       -- it was written first, and then nothing more comes
       out-lost : (x : Told (List ℕ)) → IsShortOf (then_told (told (piece ∷ []) Lost) (lies_to x was sink_link)) (lies_to x a sink_link)
       out-lost x =
@@ -244,26 +268,27 @@ module _ (rf : ℕ) (feed : Option Feed) (p q : List ℕ → Type 0) (shape : Sh
         b-stages = ap (λ (n : Node). n.core.stages.items) after.only.is
 
         by : (ws : List State) → a.core.stages.items ≡ ws → HasOne b
-        by [] e = λ h.
+        by [] e = λ fed h.
             let none : sink_link ≡ 0 = is_last ∙ sym (count-works shape past a realm since goes) ∙ (let f : length (works_in a.core) ≡ length a.core.stages.items = length-map a.core.stages.items (λ (w : State). w.work) in let g : length a.core.stages.items ≡ 0 = ap length e in omega arith) in
             let may : may_have a.core.stages.items a.exit.output a.exit.abort ≡ true = rw (e, is, near) refl in
+            let fed_so : is_edge a.entrance.input ≡ false = ap (λ (n : Node). is_edge n.entrance.input) (sym after.only.is) ∙ fed in
             let it : hears_in shape 0 (Host id call) ≡ one_told = heard 0 (omega arith) ∙ (ap (λ (n : ℕ). only_at n one_told 0) none ∙ at-there 0 one_told) in
             let left_over = one-heard a.entrance.ahead (Bytes piece) (behind_at 0 realm.slots) (behind_at 0 a.core.realm.slots)
-            (subst (λ (t : Told Value). IsShortOf (then_told t (behind_at 0 realm.slots)) (behind_at 0 a.core.realm.slots)) it (event.short 0 (omega arith))) (since.one may) in
+            (subst (λ (t : Told Value). IsShortOf (then_told t (behind_at 0 realm.slots)) (behind_at 0 a.core.realm.slots)) it (event.short 0 (omega arith))) (since.one fed_so may) in
             after.one b.entrance.ahead (subst (OneAtMost b.entrance.ahead) (sym left_over.0) tt)
         by (u ∷ us) e =
             one-stages shape past a realm since goes sink_link is_last id call one_told event heard b u us e (b-stages ∙ e)
-            (ap (λ (n : Node). n.entrance.ahead) after.only.is ∙ ap (λ (ws : List State). had_by ws (length piece) a.entrance.ahead) e) (λ n o. after.one n o)
+            (ap (λ (n : Node). n.entrance.ahead) after.only.is ∙ ap (λ (ws : List State). had_by ws (length piece) a.entrance.ahead) e) (ap (λ (n : Node). n.entrance.input) after.only.is) (λ n o. after.one n o)
 
       after-drawn : (c : Node) → Led shape further (record was { entrance = record was.entrance { ahead = left }; exit = record was.exit { abort = abort_left } }) → Drawn (record was { entrance = record was.entrance { ahead = left }; exit = record was.exit { abort = abort_left } }) c → Asks (settles id) c b
           → AfterQuiet shape further (record was { entrance = record was.entrance { ahead = left }; exit = record was.exit { abort = abort_left } }) b
       after-drawn c led (Same e) asks =
-          well shape further id call event.its (record was { entrance = record was.entrance { ahead = left }; exit = record was.exit { abort = abort_left } }) b led (λ f. absurd (cc)) (λ s f. cc) (subst (λ (n : Node). Asks (settles id) n b) e asks)
+          well shape further id call event.its (record was { entrance = record was.entrance { ahead = left }; exit = record was.exit { abort = abort_left } }) b led (λ f feeds. absurd (cc)) (λ s f. cc) (subst (λ (n : Node). Asks (settles id) n b) e asks)
       after-drawn c led (Triggered y reached trigger) asks =
           let n : Node = record was { entrance = record was.entrance { ahead = left }; exit = record was.exit { abort = abort_left } } in
-          let first = asks-quietly shape further n c (triggers y) (trigger-quiet shape y) led (may-trigger shape further n y reached) trigger in
+          let first = asks-quietly shape further n c (triggers y) tt (trigger-quiet shape y) led (may-trigger shape further n y reached) trigger in
           quiet-then shape further n c b first
-          (well shape (further ++ first.more) id call (called-longer further first.more id call event.its) c b first.led (λ f. absurd (cc)) (λ s f. cc) asks)
+          (well shape (further ++ first.more) id call (called-longer further first.more id call event.its) c b first.led (λ f feeds. absurd (cc)) (λ s f. cc) asks)
 
       pub wrote : Writes id piece was b old new p q → Handled shape a b (shows rf feed old) (shows rf feed new) p q
       wrote (WroteAll is near gained calm kept c draws asks) =
@@ -271,33 +296,33 @@ module _ (rf : ℕ) (feed : Option Feed) (p q : List ℕ → Type 0) (shape : Sh
           let led = led-abort shape further m abort_left (signal-same (length piece) a.exit.abort) (λ r. absurd (let f : true ≡ false = sym r ∙ near in cc))
           (led-ahead shape further was left (had-less a.core.stages.items (length piece) a.entrance.ahead) event.led) in
           let after = after-drawn c led (drawn (length piece) a.exit.abort m c refl draws) asks in
-          sunk shape past a realm since goes sink_link is_last id call one_told event heard b left abort_left a.exit.output after (told (piece ∷ []) MayCome) out rf feed old new p q piece MayCome gained (append-nil piece, refl)
+          sunk shape past a realm since goes sink_link is_last id call one_told event heard b left abort_left a.exit.output after (told (piece ∷ []) MayCome) out not_edge rf feed old new p q piece MayCome gained (append-nil piece, refl)
           (had-counts a.core.stages.items (length piece) a.entrance.ahead) (output-open a.exit.output piece (shows rf feed old) (shows rf feed new) is calm kept)
-          (abort-nearer a.exit.abort piece a.exit.output near (short-piece is)) (one-written after is near)
+          (abort-nearer a.exit.abort piece a.exit.output near) (one-written after is near)
       wrote (WroteLess is near gain rest e gained rose kept asks) =
           let few : length gain ≤ length piece = let m : length piece ≡ length gain + length rest = ap length e ∙ length-append gain rest in omega arith in
           broken call one_told event heard (told (piece ∷ []) Lost) gain is gained rose kept asks out-lost (rest, append-nil piece ∙ e) (λ n. omega arith)
-          (abort-less a.exit.abort piece gain (shut a.exit.output) (open-fails a.exit.output is) near (short-piece is) few)
+          (abort-less a.exit.abort piece gain (shut a.exit.output) (open-fails a.exit.output is) near few)
       wrote (WroteNone closed untouched asks) = refused call one_told event heard closed untouched asks
       wrote (Reached is reached untouched asks) =
           let n : Node = record was { exit = record was.exit { output = output.Aborted } } in
-          let led = led-output shape further was output.Aborted (λ h. absurd (h is)) (λ e. reached) event.led in
-          let after = badly shape further id call event.its n b led (λ e. cc) (λ e. reached) asks in
+          let led = led-output shape further was output.Aborted (sym not_edge) (λ h. absurd (h is)) (λ e. reached) event.led in
+          let after = badly shape further id call event.its n b refl led (λ e. cc) (λ e. reached) asks in
           rw untouched.shown
-          (sunk shape past a realm since goes sink_link is_last id call one_told event heard b a.entrance.ahead a.exit.abort output.Aborted after (told [] Lost) (lost-out call one_told event heard) rf feed old old p q [] Lost untouched.gained ([], refl)
-          (λ e. omega arith) (output-aborts a.exit.output (shows rf feed old) is) (abort-same a.exit.abort [] output.Aborted) (one-shut call one_told event heard a.entrance.ahead a.exit.abort output.Aborted after (λ e. cc) refl))
+          (sunk shape past a realm since goes sink_link is_last id call one_told event heard b a.entrance.ahead a.exit.abort output.Aborted after (told [] Lost) (lost-out call one_told event heard) not_edge rf feed old old p q [] Lost untouched.gained ([], refl)
+          (λ e. omega arith) (output-aborts a.exit.output (shows rf feed old) is) (abort-same a.exit.abort [] output.Aborted) (one-shut call one_told event heard a.entrance.ahead a.exit.abort output.Aborted after refl (λ e. cc) refl))
 
     -- the sink is closed
     module _ (event : AfterEvent shape past a realm (Host id (Close a.exit.sink))) where
       pub closed : Finishes id was b old new p q → Handled shape a b (shows rf feed old) (shows rf feed new) p q
       closed (FinishedWell is gained calm done asks) =
           let call = Close a.exit.sink in
-          let led = led-output shape further was output.Finished (λ h. absurd (h is)) (λ e. absurd (cc)) event.led in
-          let after = well shape further id call event.its (record was { exit = record was.exit { output = output.Finished } }) b led (λ e. refl) (λ s f. cc) asks in
+          let led = led-output shape further was output.Finished (sym not_edge) (λ h. absurd (h is)) (λ e. absurd (cc)) event.led in
+          let after = well shape further id call event.its (record was { exit = record was.exit { output = output.Finished } }) b led (λ e feeds. refl) (λ s f. cc) asks in
           sunk shape past a realm since goes sink_link is_last id call (told [] Closed) event heard-close b a.entrance.ahead a.exit.abort output.Finished after (told [] Closed)
-          (heard-out shape past a realm since goes sink_link is_last id call (told [] Closed) event heard-close) rf feed old new p q [] Closed gained (refl, refl)
+          (heard-out shape past a realm since goes sink_link is_last id call (told [] Closed) event heard-close) not_edge rf feed old new p q [] Closed gained (refl, refl)
           (λ e. omega arith) (output-finishes a.exit.output (shows rf feed old) (shows rf feed new) is calm done) (abort-same a.exit.abort [] output.Finished)
-          (one-shut call (told [] Closed) event heard-close a.entrance.ahead a.exit.abort output.Finished after (λ e. cc) refl)
+          (one-shut call (told [] Closed) event heard-close a.entrance.ahead a.exit.abort output.Finished after refl (λ e. cc) refl)
       closed (FinishedBadly is gained rose kept asks) =
           let call = Close a.exit.sink in
           broken call (told [] Closed) event heard-close (told [] Lost) [] is gained rose kept asks (lost-out call (told [] Closed) event heard-close) ([], refl) (λ n. omega arith)
@@ -305,7 +330,7 @@ module _ (rf : ℕ) (feed : Option Feed) (p q : List ℕ → Type 0) (shape : Sh
       closed (FinishedNot shut_already untouched asks) = refused (Close a.exit.sink) (told [] Closed) event heard-close shut_already untouched asks
 
   -- of nothing whose bytes lie in the node
-  module _ (e : Event) (event : AfterEvent shape past a realm e) (quiet : (k : ℕ) → k ≤ count_in shape → in_bytes (hears_in shape k e) ≡ nothing_yet) (one : HasOne was) where
+  module _ (e : Event) (event : AfterEvent shape past a realm e) (no_post : IsNoPost e) (quiet : (k : ℕ) → k ≤ count_in shape → in_bytes (hears_in shape k e) ≡ nothing_yet) (one : HasOne was) where
     unheard : (k : ℕ) → k ≤ count_in shape → IsShortOf (lies_in was k) (lies_in a k)
     unheard k less = unheard-lies shape past a realm e event goes (coming a k) k less (quiet k less)
 
@@ -318,6 +343,7 @@ module _ (rf : ℕ) (feed : Option Feed) (p q : List ℕ → Type 0) (shape : Sh
           led = event.led;
           pushes = λ h. subst (λ (n : ℕ). ArePushed n a.core.stages.items) (sym event.age) (since.pushes goes);
           one = one;
+          ends = event.ends no_post since.ends;
           went = went-rests shape a was (shows rf feed old) p q untouched.gained (going-stays a was goes) since.led.is_of.stages (record { realm = realm; stopped = a.core.stopped; is = refl }) unheard;
         })
 
@@ -336,16 +362,17 @@ module _ (rf : ℕ) (feed : Option Feed) (p q : List ℕ → Type 0) (shape : Sh
           led = led-asked shape further was id (i, subst (λ x. IsItsCall (called further) x) is event.its) event.led;
           pushes = λ h. subst (λ (k : ℕ). ArePushed k a.core.stages.items) (sym event.age) (since.pushes goes);
           one = one;
+          ends = ends-as shape further was n refl refl (λ h. h) (event.ends no_post since.ends);
           went = went-quietly a n (shows rf feed old) p q untouched.gained (going-stays a n goes)
-              (record { taken = refl; ahead = λ h. refl; input = refl; output = refl; abort = refl; stages = refl; source = refl; sink = refl; most = refl; pipe = refl; pipes = refl }) rest-goes;
+              (record { taken = refl; ahead = λ h. refl; input = refl; output = refl; abort = refl; stages = refl; source = refl; sink = refl; most = refl; pipe = refl; pipes = refl; first = refl; above = refl; below = refl }) rest-goes;
         })
 
     -- it is settled at once
-    pub settled : (call : HostCall) → e ≡ Host id call → (call ≡ Close a.exit.sink → ⊥) → ((s : StreamId) → call ≡ Flush s → ⊥) → Settles id was b old new p q
+    pub settled : (call : HostCall) → e ≡ Host id call → (call ≡ Close a.exit.sink → feeds_edge a.exit.output ≡ false → ⊥) → ((s : StreamId) → call ≡ Flush s → ⊥) → Settles id was b old new p q
         → Handled shape a b (shows rf feed old) (shows rf feed new) p q
     settled call is other flush (asks, untouched) =
         let its : slice_get (called further) id.0 ≡ Some call = subst (λ x. IsItsCall (called further) x) is event.its in
-        let after = well shape further id call its was b event.led (λ c. absurd (other c)) flush asks in
+        let after = well shape further id call its was b event.led (λ c feeds. absurd (other c feeds)) flush asks in
         let b-is : b ≡ record a { core = record a.core { realm = after.only.realm; stopped = after.only.stopped } } = after.only.is in
         rw untouched.shown
         (record {
@@ -355,9 +382,10 @@ module _ (rf : ℕ) (feed : Option Feed) (p q : List ℕ → Type 0) (shape : Sh
               let f = after.older h in
               let g = event.age in
               subst (ArePushed b.core.realm.slots.age) (sym (ap (λ (n : Node). n.core.stages.items) b-is)) (all-more a.core.realm.slots.age b.core.realm.slots.age a.core.stages.items (omega arith) (since.pushes goes));
-          one = λ h.
+          ends = after.ends (event.ends no_post since.ends);
+          one = λ fed h.
               subst (λ (k : ℕ). OneAtMost k (behind_at 0 b.core.realm.slots).items) (sym (ap (λ (n : Node). n.entrance.ahead) b-is))
-              (after.one a.entrance.ahead (one (subst (λ (n : Node). may_have n.core.stages.items n.exit.output n.exit.abort ≡ true) b-is h)));
+              (after.one a.entrance.ahead (one (ap (λ (n : Node). is_edge n.entrance.input) (sym b-is) ∙ fed) (subst (λ (n : Node). may_have n.core.stages.items n.exit.output n.exit.abort ≡ true) b-is h)));
           went = went-rests shape a b (shows rf feed old) p q untouched.gained (going-stays a b goes) since.led.is_of.stages (record { realm = after.only.realm; stopped = after.only.stopped; is = b-is })
               (λ k less. subst (λ (z : Told (List ℕ)). IsShortOf (lies_to z b k) (lies_in a k)) (sym (ap (λ (n : Node). coming n k) b-is))
               (short_trans _ _ _ (after.lies (coming a k) k less) (unheard k less)));

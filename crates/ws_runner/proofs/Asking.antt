@@ -27,9 +27,9 @@ use Rattle.ws_realm.specs.declared.realm.Why.TheVariants.{NoMemory, Spent}
 use Rattle.ws_runner.specs.declared.node.Abort.{Abort as AbortOf}
 use Rattle.ws_runner.specs.declared.node.Node.{Node}
 use Rattle.ws_runner.specs.declared.node.Input.{Input}
-use Rattle.ws_runner.specs.declared.node.Input.TheVariants.{Open as InputOpen, Ended, Failed as InputFailed, TooLong}
+use Rattle.ws_runner.specs.declared.node.Input.TheVariants.{Open as InputOpen, Ended, Failed as InputFailed, TooLong, Edge, Broken}
 use Rattle.ws_runner.specs.declared.node.Output.{Output}
-use Rattle.ws_runner.specs.declared.node.Output.TheVariants.{Open, Finished, Failed, Aborted}
+use Rattle.ws_runner.specs.declared.node.Output.TheVariants.{Open, Finished, Failed, Aborted, Edge as OutputEdge}
 use Rattle.ws_runner.specs.Moves.{IsYoung, Asks, Performed, Refused, Before, Wanting, IsSpent, IsDoneBy, Stops, Works, with_realm, Shown, Untouched, Settles, writes_by, Answers, takes_bytes, takes_chunk, is_readable, is_writable, had_by, DrawsNear, draws_by, draws_near, nearer, triggers, transforms_by, settles, NeedsNoRead, IsStopped, IsShut, Reads, ReadNot}
 
 -- a realm that has stopped is asked nothing
@@ -57,6 +57,8 @@ shut-by InputOpen a e shut = absurd (cc)
 shut-by Ended a e shut = IsShut (λ f. let g : Ended ≡ InputOpen = sym e ∙ f in cc)
 shut-by InputFailed a e shut = IsShut (λ f. let g : InputFailed ≡ InputOpen = sym e ∙ f in cc)
 shut-by TooLong a e shut = IsShut (λ f. let g : TooLong ≡ InputOpen = sym e ∙ f in cc)
+shut-by Edge a e shut = IsShut (λ f. let g : Edge ≡ InputOpen = sym e ∙ f in cc)
+shut-by (Broken r) a e shut = IsShut (λ f. let g : Broken r ≡ InputOpen = sym e ∙ f in cc)
 
 pub shut-rests : (a : Node) → is_readable a.entrance.input ≡ false → NeedsNoRead a
 shut-rests a shut = shut-by a.entrance.input a refl shut
@@ -99,12 +101,14 @@ is_open Open t e f = refl
 is_open Finished t e f = absurd (cc)
 is_open Failed t e f = absurd (cc)
 is_open Aborted t e f = absurd (cc)
+is_open OutputEdge t e f = absurd (cc)
 
 pub isn't_open : (o : Output) (t : Bool) → t ≡ is_writable o → t ≡ false → o ≢ Open
 isn't_open Open t e f = absurd (cc)
 isn't_open Finished t e f = λ g. cc
 isn't_open Failed t e f = λ g. cc
 isn't_open Aborted t e f = λ g. cc
+isn't_open OutputEdge t e f = λ g. cc
 
 -- what holds where a test is so, or isn't
 pub so : (P : Bool → Type 0) (t b : Bool) → t ≡ b → t ≡ true → P true → P b
@@ -200,6 +204,8 @@ may_read InputOpen t e f = refl
 may_read Ended t e f = absurd (cc)
 may_read InputFailed t e f = absurd (cc)
 may_read TooLong t e f = absurd (cc)
+may_read Edge t e f = absurd (cc)
+may_read (Broken r) t e f = absurd (cc)
 
 -- what a read gave is taken
 

@@ -3,8 +3,10 @@ use Rattle.std.proofs.Common.{◌≡◌, ◌<◌, ◌-◌, ℕ, zero, suc, Bool,
 use Rattle.std.specs.Prelude.{not, ◌||◌}
 use Rattle.ws_value.specs.declared.ids.HostId.{HostId}
 use Rattle.ws_value.specs.declared.ids.StreamId.{StreamId}
+use Rattle.ws_value.specs.declared.value.Message.{Message}
 use Rattle.ws_value.specs.declared.value.Value.{Value}
 use Rattle.ws_value.specs.declared.value.Value.TheVariants.{Bytes, Plain}
+use Rattle.ws_edge.specs.Edge.{AtEdge}
 use Rattle.ws_io.specs.Feed.{Feed}
 use Rattle.ws_io.specs.declared.outside.Failed.{Failed}
 use Rattle.ws_steps.specs.declared.calls.Call.{Call}
@@ -12,7 +14,7 @@ use Rattle.ws_steps.specs.declared.calls.Event.{Event}
 use Rattle.ws_steps.specs.declared.calls.Event.TheVariants.{Host, Settled, Signal, Post}
 use Rattle.ws_steps.specs.declared.calls.HostCall.{HostCall}
 use Rattle.ws_steps.specs.declared.calls.HostCall.TheVariants.{Pull, Write, Close, Start, Cancel, Abort, Transform, Flush, CancelTransform}
-use Rattle.ws_steps.specs.Histories.{is_same}
+use Rattle.ws_steps.specs.PortHistory.{is_same_port}
 use Rattle.ws_steps.specs.Queues.{is_empty}
 use Rattle.ws_steps.specs.Run.{Entry, Called, Worked, Heard, run, step, after_job, after_event, first_event, is_idle, jobs_in_a_row}
 use Rattle.ws_steps.specs.Slots.{Slots}
@@ -21,8 +23,11 @@ use Rattle.ws_stages.specs.declared.work.Pushed.{Pushed}
 use Rattle.ws_realm.specs.Seen.{SeenRealm}
 use Rattle.ws_runner.specs.declared.node.Node.{Node}
 use Rattle.ws_runner.specs.declared.node.Abort.{Abort as AbortOf}
-use Rattle.ws_runner.specs.Moves.{Asks, Performed, Refused, Works, Shown, Writes, WroteAll, WroteLess, WroteNone, Reached, DrawsNear, draws_near, draws_by, nearer, written, Finishes, FinishedWell, FinishedBadly, FinishedNot, writes_by, finishes_by, HasStages, had_behind, Enqueues, NoPiece, NotTaken, OneTaken, PutsAll, Transforms, PushedOne, NoRoomToPush, NotPushed, NothingToPush, transforms_by, Flushes, FlushedOne, NoRoomToFlush, NotFlushed, NothingToFlush, Answers, Hears, Reads, ReadNot, Wanted, ReadOnce, takes_bytes, Takes, with_realm}
-use Rattle.ws_runner.specs.Node.{is_busy}
+use Rattle.ws_runner.specs.Moves.{Asks, Performed, Refused, Works, Shown, Writes, WroteAll, WroteLess, WroteNone, Reached, DrawsNear, draws_near, draws_by, nearer, written, Finishes, FinishedWell, FinishedBadly, FinishedNot, writes_by, finishes_by, HasStages, had_behind, Enqueues, NoPiece, NotTaken, OneTaken, PutsAll, Transforms, PushedOne, NoRoomToPush, NotPushed, NothingToPush, transforms_by, Flushes, FlushedOne, NoRoomToFlush, NotFlushed, NothingToFlush, Answers, is_sink, Reads, ReadNot, Wanted, ReadOnce, takes_bytes, Takes, with_realm}
+use Rattle.ws_chain_laws.specs.Chain.{source_port}
+use Rattle.ws_runner.specs.Edges.{PostsBoth, TellsBoth, TakesAbove, NotAbove, NoMore, NoneAbove, TookAbove, TakesBelow, NotBelow, NoneBelow, TookBelow, WaitsAt, Waiting, NoRoom, NoEdge, had_as, with_above, with_below, waits_by}
+use Rattle.ws_runner.specs.Hears.{Hears}
+use Rattle.ws_runner.specs.Node.{is_busy, port_below}
 use Rattle.ws_runner.specs.Turns.{Follows, GoesBy, IsBegun, JobFirst, EventFirst, HasWorked, AnyJob, NoneQueued, HasHeard, NoneHeard}
 
 run-both : (xs ys : List Entry) (s : Slots) → run (xs ++ ys) s ≡ run ys (run xs s)
@@ -49,7 +54,7 @@ begun-then a b c (EventFirst some g) f = EventFirst some (goes-then Heard a b c 
 
 -- what a node does follows
 
-asks-follow : (c : Call) (a b : Node) → Asks c a b → Follows a b
+pub asks-follow : (c : Call) (a b : Node) → Asks c a b → Follows a b
 asks-follow c a b (Performed realm slots young goes is) = record { entries = Called c ∷ []; slots = ap (λ (n : Node). n.core.realm.slots) is ∙ slots }
 asks-follow c a b (Refused why stops is) = record { entries = []; slots = ap (λ (n : Node). n.core.realm.slots) is }
 
@@ -127,8 +132,8 @@ module _ (id : HostId) (a b : Node) (old new : Shown) (p q : List ℕ → Type 0
 
   answers-follow : (call : HostCall) → Answers id call a b old new p q → Follows a b
   answers-follow (Pull i) h = follows-same a b (ap (λ (n : Node). n.core.realm.slots) h.0)
-  answers-follow (Write i v) h = writes_by-follow v (is_same a.exit.sink i) h
-  answers-follow (Close i) h = finishes_by-follow (is_same a.exit.sink i) h
+  answers-follow (Write i v) h = writes_by-follow v (is_sink a.exit i) h
+  answers-follow (Close i) h = finishes_by-follow (is_sink a.exit i) h
   answers-follow (Start i) h = asks-follow _ a b h.0
   answers-follow (Cancel i r) h = asks-follow _ a b h.0
   answers-follow (Abort i r) h = asks-follow _ a b h.0
@@ -136,11 +141,30 @@ module _ (id : HostId) (a b : Node) (old new : Shown) (p q : List ℕ → Type 0
   answers-follow (Flush i) h = flushes-follow id i a b h.0
   answers-follow (CancelTransform i r) h = asks-follow _ a b h.0
 
+-- a message waits at an end
+
+waits-same : (m : Message) (put : AtEdge → Node) (a n b : Node) (o : Option AtEdge) → ((e : AtEdge) → (put e).core.realm.slots ≡ a.core.realm.slots)
+    → n.core.realm.slots ≡ a.core.realm.slots → WaitsAt m put a n b o → b.core.realm.slots ≡ a.core.realm.slots
+waits-same m put a n b o same mid (Waiting e there is) = ap (λ (x : Node). x.core.realm.slots) is ∙ same (record e { waiting = e.waiting ++ m ∷ [] })
+waits-same m put a n b o same mid (NoRoom e there is) = ap (λ (x : Node). x.core.realm.slots) is ∙ mid
+waits-same m put a n b o same mid (NoEdge none is) = ap (λ (x : Node). x.core.realm.slots) is
+
+had_as-same : (ws : List State) (m : Message) (n : Node) → (had_as ws m n).core.realm.slots ≡ n.core.realm.slots
+had_as-same [] m n = refl
+had_as-same (w ∷ ws) m n = refl
+
+waits-follow : (below above : Bool) (m : Message) (a b : Node) → waits_by below above m a b → Follows a b
+waits-follow true above m a b h =
+    let same = had_as-same a.core.stages.items m a in
+    follows-same a b (waits-same m (λ e. with_below e (had_as a.core.stages.items m a)) a (had_as a.core.stages.items m a) b a.exit.below (λ e. same) same h)
+waits-follow false true m a b h = follows-same a b (waits-same m (λ e. with_above e a) a a b a.entrance.above (λ e. refl) refl h)
+waits-follow false false m a b h = follows-same a b (ap (λ (x : Node). x.core.realm.slots) h)
+
 hears-follow : (e : Event) (a b : Node) (old new : Shown) (p q : List ℕ → Type 0) → Hears e a b old new p q → Follows a b
 hears-follow (Host id call) a b old new p q h = answers-follow id a b old new p q call h
 hears-follow (Settled r) a b old new p q h = follows-same a b (ap (λ (n : Node). n.core.realm.slots) h.0)
 hears-follow (Signal i r) a b old new p q h = follows-same a b (ap (λ (n : Node). n.core.realm.slots) h.0)
-hears-follow (Post c m) a b old new p q h = follows-same a b (ap (λ (n : Node). n.core.realm.slots) h.0)
+hears-follow (Post c m) a b old new p q h = waits-follow (is_same_port (port_below a.entrance) c) (is_same_port source_port c) m a b h.0
 
 takes_bytes-follow : (piece : List ℕ) (a b : Node) (t : Bool) → takes_bytes piece a b t → Follows a b
 takes_bytes-follow piece a b true h = let f = asks-follow _ _ b h in record { entries = f.entries; slots = f.slots }
@@ -158,6 +182,25 @@ reads-follow a b old new before now (ReadOnce goes written was_open id asked wan
     let f = takes-follow piece (record a { entrance = record a.entrance { asked = None } }) c takes in
     let g = asks-follow _ c b settles_it in
     record { entries = f.entries ++ g.entries; slots = g.slots ∙ (ap (run g.entries) f.slots ∙ sym (run-both f.entries g.entries a.core.realm.slots)) }
+
+-- what a node does at the ends of its edges
+
+pub posts-follow : (posted : Bool) (a b : Node) → PostsBoth posted a b → Follows a b
+posts-follow posted a b h = follows-same a b (ap (λ (n : Node). n.core.realm.slots) h.is)
+
+pub tells-follow : (a b : Node) → TellsBoth a b → Follows a b
+tells-follow a b h = follows-same a b (ap (λ (n : Node). n.core.realm.slots) h.posts.is ∙ ap (λ (n : Node). n.core.realm.slots) h.is)
+
+pub takes-above-follow : (took : Bool) (a b : Node) → TakesAbove took a b → Follows a b
+takes-above-follow took a b (NotAbove none held same) = follows-same a b (ap (λ (n : Node). n.core.realm.slots) same)
+takes-above-follow took a b (NoMore none broken same) = follows-same a b (ap (λ (n : Node). n.core.realm.slots) same)
+takes-above-follow took a b (NoneAbove none going e f there takes same) = follows-same a b (ap (λ (n : Node). n.core.realm.slots) same)
+takes-above-follow took a b (TookAbove some going more m e f there takes brings) = let g = asks-follow _ _ b brings in record { entries = g.entries; slots = g.slots }
+
+pub takes-below-follow : (took : Bool) (a b : Node) → TakesBelow took a b → Follows a b
+takes-below-follow took a b (NotBelow none held same) = follows-same a b (ap (λ (n : Node). n.core.realm.slots) same)
+takes-below-follow took a b (NoneBelow none going e f there takes same) = follows-same a b (ap (λ (n : Node). n.core.realm.slots) same)
+takes-below-follow took a b (TookBelow some going m e f there takes brings) = let g = asks-follow _ _ b brings in record { entries = g.entries; slots = g.slots }
 
 -- the host hears of an event, does what it asks and reads
 

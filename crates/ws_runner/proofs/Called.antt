@@ -1,5 +1,5 @@
 -- The host settles a call.
-use Rattle.std.proofs.Common.{◌≡◌, List, Some, sym, ap, ◌∙◌, arith}
+use Rattle.std.proofs.Common.{◌≡◌, false, List, Some, sym, ap, ◌∙◌, arith}
 use Rattle.std.specs.Prelude.{slice_get, All}
 use Rattle.ws_value.specs.declared.ids.HostId.{HostId}
 use Rattle.ws_value.specs.declared.ids.StreamId.{StreamId}
@@ -15,11 +15,13 @@ use Rattle.ws_steps.specs.declared.calls.HostCall.TheVariants.{Close, Flush}
 use Rattle.ws_steps.specs.Run.{Entry}
 use Rattle.ws_end_laws.specs.hosts.HostCalls.{called, settles_well}
 use Rattle.ws_reason_laws.specs.Reasons.{failure_of}
+use Rattle.ws_runner.specs.Fair.{IsFairAnswer}
 use Rattle.ws_runner.specs.declared.node.Node.{Node}
 use Rattle.ws_runner.specs.declared.node.Output.TheVariants as output
 use Rattle.ws_runner.specs.Moves.{IsAt}
+use Rattle.ws_runner.specs.Node.{feeds_edge}
 use Rattle.ws_runner.specs.Past.{IsCause}
-use Rattle.ws_runner.proofs.Since.{MayAsk}
+use Rattle.ws_runner.proofs.Since.{MayAsk, AllHaveCauses}
 
 some_same : {A : Type 0} (x y : A) → Some x ≡ Some y → x ≡ y
 some_same x y e = grind arith
@@ -36,13 +38,14 @@ module _ (shape : Shape) (past : List Entry) (n : Node) (id : HostId) (call : Ho
   same-call i other e c =
       some_same call other (sym is ∙ (ap (λ (h : HostId). slice_get (called past) h.0) (id_of id i x e) ∙ c))
 
-  pub may-settle : All (IsCause n) (failure_of (Settle id x)) → (call ≡ Close n.exit.sink → x ≡ AnswerOk → n.exit.output ≡ output.Finished)
+  pub may-settle : All (IsCause n) (failure_of (Settle id x)) → IsFairAnswer x → (call ≡ Close n.exit.sink → x ≡ AnswerOk → feeds_edge n.exit.output ≡ false → n.exit.output ≡ output.Finished)
       → ((i : StreamId) → call ≡ Flush i → x ≡ AnswerOk → (first last : List State) (w : State) → IsAt i n.core.stages.items first w last → w.work ≡ Over Fine)
       → MayAsk shape past n (Settle id x)
-  may-settle failed close flush =
+  may-settle failed clones close flush =
       record {
         is_own = tt;
-        failed = failed;
-        closes = λ i e c. close (same-call i (Close n.exit.sink) e c) (answer_of id i x e);
+        clones = clones;
+        failed = AllHaveCauses failed;
+        closes = λ i e c no. close (same-call i (Close n.exit.sink) e c) (answer_of id i x e) no;
         flushes = λ i s e c first last w at. flush s (same-call i (Flush s) e c) (answer_of id i x e) first last w at;
       }

@@ -1,5 +1,5 @@
 -- Runs that are longer by one entry.
-use Rattle.std.proofs.Common.{◌≡◌, List, [], ◌∷◌, ◌++◌, Option, Some, None, refl, sym, ap, ◌∙◌, subst, append_assoc, arith}
+use Rattle.std.proofs.Common.{◌≡◌, false, List, [], ◌∷◌, ◌++◌, Option, Some, None, refl, sym, ap, ◌∙◌, subst, append_assoc, arith}
 use Rattle.std.specs.Prelude.{slice_get}
 use Rattle.ws_value.specs.declared.ids.HostId.{HostId}
 use Rattle.ws_value.specs.declared.ids.StreamId.{StreamId}
@@ -13,9 +13,12 @@ use Rattle.ws_steps.specs.Slots.{Slots}
 use Rattle.ws_end_laws.proofs.hosts.Called.{place-grows, each_event_is_its_call}
 use Rattle.ws_end_laws.specs.hosts.HostCalls.{called, settles_well}
 use Rattle.ws_reason_laws.specs.Reasons.{failures, failure_of}
+use Rattle.ws_clone_laws.specs.Cloning.{AllBringClones}
 use Rattle.ws_runner.specs.declared.node.Output.{Output}
 use Rattle.ws_runner.specs.declared.node.Output.TheVariants as output
+use Rattle.ws_runner.specs.Fair.{AllBringFair}
 use Rattle.ws_runner.specs.Moves.{IsAt}
+use Rattle.ws_runner.specs.Node.{feeds_edge}
 use Rattle.ws_runner.specs.Past.{ClosesFinished, FlushesFine, IsPull}
 
 pub run-snoc : (xs : List Entry) (x : Entry) (s : Slots) → run (xs ++ x ∷ []) s ≡ step (run xs s) x
@@ -27,6 +30,24 @@ failures-snoc [] x = refl
 failures-snoc (Called c ∷ ys) x = ap (λ q. failure_of c ++ q) (failures-snoc ys x) ∙ sym (append_assoc (failure_of c) (failures ys) (failures (x ∷ [])))
 failures-snoc (Worked ∷ ys) x = failures-snoc ys x
 failures-snoc (Heard ∷ ys) x = failures-snoc ys x
+
+pub fair-append : (xs ys : List Entry) → AllBringFair xs → AllBringFair ys → AllBringFair (xs ++ ys)
+fair-append [] ys a b = b
+fair-append (Called c ∷ xs) ys a b = (a.0, fair-append xs ys a.1 b)
+fair-append (Worked ∷ xs) ys a b = fair-append xs ys a b
+fair-append (Heard ∷ xs) ys a b = fair-append xs ys a b
+
+pub fair-last : (xs ys : List Entry) → AllBringFair (xs ++ ys) → AllBringFair ys
+fair-last [] ys a = a
+fair-last (Called c ∷ xs) ys a = fair-last xs ys a.1
+fair-last (Worked ∷ xs) ys a = fair-last xs ys a
+fair-last (Heard ∷ xs) ys a = fair-last xs ys a
+
+pub clones-last : (xs ys : List Entry) → AllBringClones (xs ++ ys) → AllBringClones ys
+clones-last [] ys a = a
+clones-last (Called c ∷ xs) ys a = clones-last xs ys a.1
+clones-last (Worked ∷ xs) ys a = clones-last xs ys a
+clones-last (Heard ∷ xs) ys a = clones-last xs ys a
 
 -- a call of the host has the same number in a longer past
 pub called-longer : (entries more : List Entry) (id : HostId) (call : HostCall) → slice_get (called entries) id.0 ≡ Some call
@@ -75,12 +96,12 @@ settled-by entries before after x id call P k may (Before ws e) c = k ws e c
 
 -- by which no close is settled well but one of a finished output
 abbrev pub MayClose : StreamId → List Entry → Entry → Output → Type 0
-MayClose sink entries x o = (id : HostId) → x ≡ Called (settles_well id) → slice_get (called entries) id.0 ≡ Some (Close sink) → o ≡ output.Finished
+MayClose sink entries x o = (id : HostId) → x ≡ Called (settles_well id) → slice_get (called entries) id.0 ≡ Some (Close sink) → feeds_edge o ≡ false → o ≡ output.Finished
 
 pub closes-snoc : (sink : StreamId) (entries : List Entry) (x : Entry) (o : Output) → ClosesFinished sink entries o → MayClose sink entries x o
     → ClosesFinished sink (entries ++ x ∷ []) o
-closes-snoc sink entries x o k may before after id e c =
-    settled-by entries before after x id (Close sink) (o ≡ output.Finished) (λ ws f g. k before ws id f g) may
+closes-snoc sink entries x o k may before after id e c sunk =
+    settled-by entries before after x id (Close sink) (o ≡ output.Finished) (λ ws f g. k before ws id f g sunk) (λ i f g. may i f g sunk)
     (splits entries before after x (Called (settles_well id)) e) c
 
 -- and no flush but one of a stage that ended fine

@@ -1,8 +1,20 @@
 -- Chunks are enqueued in order.
-use Rattle.std.proofs.Common.{◌≡◌, ◌↔◌, ℕ, List, [], ◌∷◌, Bool, true, false, refl, sym, subst, length, arith}
+use Rattle.std.proofs.Common.{◌≡◌, ◌↔◌, ℕ, List, [], ◌∷◌, Bool, true, false, refl, sym, ap, ◌∙◌, subst, length, arith}
+use Rattle.ws_steps.specs.declared.calls.Call.{Call}
 use Rattle.ws_value.specs.declared.ids.StreamId.{StreamId}
 use Rattle.ws_runner.specs.declared.node.Node.{Node}
-use Rattle.ws_runner.specs.Moves.{Asks, IsDoneBy, Enqueues, enqueues, NoPiece, NotTaken, OneTaken}
+use Rattle.ws_runner.specs.Moves.{Asks, Performed, Refused, IsDoneBy, Enqueues, enqueues, NoPiece, NotTaken, OneTaken}
+
+-- what is enqueued changes nothing of how many stages stand before
+
+asks-first : (c : Call) (a b : Node) → Asks c a b → b.core.first ≡ a.core.first
+asks-first c a b (Performed realm slots young goes is) = ap (λ (n : Node). n.core.first) is
+asks-first c a b (Refused why stops is) = ap (λ (n : Node). n.core.first) is
+
+pub enqueues-first : (i : StreamId) (chunks : List (List ℕ)) (a b : Node) → Enqueues i chunks a b → b.core.first ≡ a.core.first
+enqueues-first i chunks a b (NoPiece n) = refl
+enqueues-first i chunks a b (NotTaken piece rest x y asks not_done) = asks-first (enqueues i piece) x y asks
+enqueues-first i chunks a b (OneTaken piece rest x y z asks done more) = enqueues-first i rest z y more ∙ asks-first (enqueues i piece) x z asks
 
 -- what is enqueued from a node on, and then from another on
 abbrev pub EnqueuesFrom : StreamId → List (List ℕ) → Node → List (List ℕ) → Node → Type 0

@@ -1,11 +1,12 @@
 -- How often stages were asked, and what is behind the host on the first link.
-use Rattle.std.proofs.Common.{◌≡◌, ◌+◌, ◌≤◌, ◌<◌, ℕ, true, List, [], ◌∷◌, ◌++◌, refl, sym, subst, arith}
+use Rattle.std.proofs.Common.{◌≡◌, ◌+◌, ◌≤◌, ◌<◌, ℕ, true, List, [], ◌∷◌, ◌++◌, refl, sym, ap, ◌∙◌, subst, arith}
 use Rattle.std.specs.Prelude.{All}
 use Rattle.std.proofs.lemmas.List.Elements.{All-nil, All-cons, All-head, All-tail}
 use Rattle.ws_flow.specs.Parts.{Live, Over}
 use Rattle.ws_stages.specs.State.{State, IsLive, is_live}
 use Rattle.ws_chain_laws.specs.Chain.{behind_at}
 use Rattle.ws_runner.specs.declared.node.Node.{Node}
+use Rattle.ws_runner.specs.Node.{is_edge}
 use Rattle.ws_runner.specs.Past.{OneAtMost, HasOne, may_have}
 
 -- states of which one was asked once more
@@ -33,15 +34,15 @@ live-true w live = by w.work live where
 -- what is behind the host on the first link while a stage that isn't the first is asked
 
 pub one-behind : (u : State) (us vs : List State) (a b : Node) → HasOne a → a.core.stages.items ≡ u ∷ us → b.core.stages.items ≡ u ∷ vs → b.entrance.ahead ≡ a.entrance.ahead
-    → ((q : ℕ) → OneAtMost q (behind_at 0 a.core.realm.slots).items → OneAtMost q (behind_at 0 b.core.realm.slots).items) → HasOne b
-one-behind u us vs a b one was is ahead less h =
+    → b.entrance.input ≡ a.entrance.input → ((q : ℕ) → OneAtMost q (behind_at 0 a.core.realm.slots).items → OneAtMost q (behind_at 0 b.core.realm.slots).items) → HasOne b
+one-behind u us vs a b one was is ahead input less fed h =
     let live : is_live u.work ≡ true = subst (λ (s : List State). may_have s b.exit.output b.exit.abort ≡ true) is h in
     subst (λ (q : ℕ). OneAtMost q (behind_at 0 b.core.realm.slots).items) (sym ahead)
-    (less a.entrance.ahead (one (subst (λ (s : List State). may_have s a.exit.output a.exit.abort ≡ true) (sym was) live)))
+    (less a.entrance.ahead (one (ap is_edge (sym input) ∙ fed) (subst (λ (s : List State). may_have s a.exit.output a.exit.abort ≡ true) (sym was) live)))
 
 -- where the first stage is over, nothing is said of it
 pub one-over : (v : State) (vs : List State) (b : Node) → b.core.stages.items ≡ v ∷ vs → (IsLive v.work → ⊥) → HasOne b
-one-over v vs b is over h = absurd (over (by v.work (subst (λ (s : List State). may_have s b.exit.output b.exit.abort ≡ true) is h))) where
+one-over v vs b is over fed h = absurd (over (by v.work (subst (λ (s : List State). may_have s b.exit.output b.exit.abort ≡ true) is h))) where
   by : (x : _) → is_live x ≡ true → IsLive x
   by (Live k) l = tt
   by (Over e) l = absurd (cc)

@@ -94,25 +94,25 @@ same-vec v i w e =
     (λ l. ap (λ (q : v.len ≡ length v.items). record { ptr = v.ptr; len = v.len; cap = v.cap; alloc = v.alloc; items = v.items; ok = (q, v.ok.1); small = v.small }) (ℕ_set v.len (length v.items) l v.ok.0))
     (v.ok.0 ∙ sym (length-set v.items i w))
 
--- the entrance of a node, once the stage of this number had so many bytes
+-- how much a node is ahead, once the stage of this number had so many bytes
 pub data Had (n count : ℕ) (before now : Entrance) : Type 0 where
   FirstHad : n ≡ 0 → now ≡ record before { ahead = before.ahead - count } → Had n count before now
   OtherHad : (n ≡ 0 → ⊥) → now ≡ before → Had n count before now
 
-pub had-is : (stages : List State) (n count : ℕ) (a : Node) (now : Entrance) → n < length stages → Had n count a.entrance now → record a { entrance = now } ≡ had_behind (take n stages) count a
-had-is stages n count a now within (FirstHad e f) = ap (λ (x : Entrance). record a { entrance = x }) f ∙ sym (had-first stages n count a e)
-had-is [] n count a now within (OtherHad e f) = absurd (omega arith)
-had-is (x ∷ xs) zero count a now within (OtherHad e f) = absurd (e refl)
-had-is (x ∷ xs) (suc n) count a now within (OtherHad e f) = ap (λ (x : Entrance). record a { entrance = x }) f
+pub had-is : (stages : List State) (n count : ℕ) (e : Entrance) (a : Node) → n < length stages → Had n count a.entrance e → record a { entrance = e } ≡ had_behind (take n stages) count a
+had-is stages n count e a within (FirstHad z f) = ap (λ (m : Entrance). record a { entrance = m }) f ∙ sym (had-first stages n count a z)
+had-is [] n count e a within (OtherHad z f) = absurd (omega arith)
+had-is (x ∷ xs) zero count e a within (OtherHad z f) = absurd (z refl)
+had-is (x ∷ xs) (suc n) count e a within (OtherHad z f) = ap (λ (m : Entrance). record a { entrance = m }) f
 
 -- what became of a stage that was asked
 
 module _ (a : Node) (n : ℕ) (w v : State) (within : n < length a.core.stages.items) (same : w ≡ get_or a.core.stages.items n w) where
-  pub has-pushed : (count : ℕ) (now : Entrance) → Had n count a.entrance now
-      → HasStages (take n a.core.stages.items ++ v ∷ drop (suc n) a.core.stages.items) (had_behind (take n a.core.stages.items) count a) (record a { core = record a.core { stages = with_item a.core.stages n v }; entrance = now })
-  has-pushed count now had =
+  pub has-pushed : (count : ℕ) (e : Entrance) → Had n count a.entrance e
+      → HasStages (take n a.core.stages.items ++ v ∷ drop (suc n) a.core.stages.items) (had_behind (take n a.core.stages.items) count a) (record a { core = record a.core { stages = with_item a.core.stages n v }; entrance = e })
+  has-pushed count e had =
       record {
-        is = ap (λ (m : Node). record m { core = record m.core { stages = with_item a.core.stages n v } }) (had-is a.core.stages.items n count a now within had);
+        is = ap (λ (m : Node). record m { core = record m.core { stages = with_item a.core.stages n v } }) (had-is a.core.stages.items n count e a within had);
         items = set-parted a.core.stages.items n w v (slice_of a.core.stages.items n w within same);
       }
 

@@ -28,9 +28,10 @@ use Rattle.ws_chain_laws.proofs.Nodes.{each_event_is_heard_at_one_link}
 use Rattle.ws_link_laws.specs.Link.{silence}
 use Rattle.ws_realm.specs.Seen.{SeenRealm}
 use Rattle.ws_realm.specs.declared.realm.Why.TheVariants as why
+use Rattle.ws_runner.specs.declared.node.Input.{Input}
 use Rattle.ws_runner.specs.declared.node.Node.{Node}
 use Rattle.ws_runner.specs.Moves.{Flushes, FlushedOne, NoRoomToFlush, NotFlushed, NothingToFlush, IsAt, NoneThere, Transforms, PushedOne, NoRoomToPush, NotPushed, NothingToPush, had_behind, stopped_by, with_realm}
-use Rattle.ws_runner.specs.Node.{coming, in_bytes, lying, nothing_yet, parts, stages_in}
+use Rattle.ws_runner.specs.Node.{coming, in_bytes, is_edge, lying, nothing_yet, parts, stages_in}
 use Rattle.ws_runner.specs.Went.{Went}
 use Rattle.ws_runner.specs.Past.{OneAtMost, ArePushed, HasOne, Led, Since, may_have}
 use Rattle.ws_runner.proofs.Changes.{led-ahead, led-stages, led-stopped}
@@ -39,6 +40,7 @@ use Rattle.ws_runner.proofs.Handled.{Handled}
 use Rattle.ws_runner.proofs.Handing.{lies_to, heard-lies, unheard-lies, one-quiet, one-heard}
 use Rattle.ws_runner.proofs.Ones.{one-more, live-true, one-behind, one-over}
 use Rattle.ws_runner.proofs.Settling.{AfterAll, answer_by, ended-as, may-answer, puts-all, the-stage}
+use Rattle.ws_runner.proofs.Quiet.{IsNoPost, ends-as}
 use Rattle.ws_runner.proofs.Since.{AfterEvent, MayAsk, OnlyRealm}
 use Rattle.ws_runner.proofs.Staged.{count-is, Stepped, pushed-goes, flushed-goes, stopped-goes, over-goes, stages-at, stages}
 use Rattle.ws_runner.proofs.Unheard.{IsNoHalf, at-there, at-elsewhere, no-transform, no-flush, none-half}
@@ -83,36 +85,37 @@ module _ (shape : Shape) (past : List Entry) (a : Node) (realm : SeenRealm) (id 
 
   -- what is behind the host on the first link then: nothing where its one chunk came to the first stage
   one-pushed : (before after : List State) (w v : State) (piece : List ℕ) (h : Told Value) → a.core.stages.items ≡ before ++ w ∷ after → b.core.stages.items ≡ before ++ v ∷ after → IsLive w.work
-      → b.entrance.ahead ≡ (had_behind before (length piece) was).entrance.ahead → h ≡ only_at (length before) (told (Bytes piece ∷ []) Open) 0
+      → b.entrance.ahead ≡ (had_behind before (length piece) was).entrance.ahead → b.entrance.input ≡ a.entrance.input → h ≡ only_at (length before) (told (Bytes piece ∷ []) Open) 0
       → IsShortOf (then_told h (behind_at 0 realm.slots)) (behind_at 0 a.core.realm.slots)
       → ((n : ℕ) → OneAtMost n (behind_at 0 realm.slots).items → OneAtMost n (behind_at 0 b.core.realm.slots).items) → HasOne b
-  one-pushed [] after w v piece h whole is live ahead heard short less some =
-      let o = since.one (subst (λ (s : List State). may_have s a.exit.output a.exit.abort ≡ true) (sym whole) (live-true w live)) in
+  one-pushed [] after w v piece h whole is live ahead input heard short less fed some =
+      let o = since.one (ap (λ (x : Input). is_edge x) (sym input) ∙ fed) (subst (λ (s : List State). may_have s a.exit.output a.exit.abort ≡ true) (sym whole) (live-true w live)) in
       let e = one-heard a.entrance.ahead (Bytes piece) (behind_at 0 realm.slots) (behind_at 0 a.core.realm.slots)
       (subst (λ (x : Told Value). IsShortOf (then_told x (behind_at 0 realm.slots)) (behind_at 0 a.core.realm.slots)) (heard ∙ at-there 0 (told (Bytes piece ∷ []) Open)) short) o in
       less b.entrance.ahead (subst (OneAtMost b.entrance.ahead) (sym e.0) tt)
-  one-pushed (u ∷ us) after w v piece h whole is live ahead heard short less some =
-      one-behind u (us ++ w ∷ after) (us ++ v ∷ after) a b since.one whole is ahead
-      (λ n o. less n (one-quiet n h (behind_at 0 realm.slots) (behind_at 0 a.core.realm.slots) (heard ∙ at-elsewhere (suc (length us)) 0 (told (Bytes piece ∷ []) Open) (λ e. omega arith)) short o)) some
+  one-pushed (u ∷ us) after w v piece h whole is live ahead input heard short less fed some =
+      one-behind u (us ++ w ∷ after) (us ++ v ∷ after) a b since.one whole is ahead input
+      (λ n o. less n (one-quiet n h (behind_at 0 realm.slots) (behind_at 0 a.core.realm.slots) (heard ∙ at-elsewhere (suc (length us)) 0 (told (Bytes piece ∷ []) Open) (λ e. omega arith)) short o)) fed some
 
   one-ended : (before after : List State) (w v : State) (t h : Told Value) (n : Node) → a.core.stages.items ≡ before ++ w ∷ after → n.core.stages.items ≡ before ++ v ∷ after → (IsLive v.work → ⊥)
-      → ((u : State) (us : List State) → before ≡ u ∷ us → n.entrance.ahead ≡ a.entrance.ahead) → h ≡ only_at (length before) t 0
+      → ((u : State) (us : List State) → before ≡ u ∷ us → n.entrance.ahead ≡ a.entrance.ahead) → n.entrance.input ≡ a.entrance.input → h ≡ only_at (length before) t 0
       → IsShortOf (then_told h (behind_at 0 realm.slots)) (behind_at 0 a.core.realm.slots)
       → ((k : ℕ) → OneAtMost k (behind_at 0 realm.slots).items → OneAtMost k (behind_at 0 n.core.realm.slots).items) → HasOne n
-  one-ended [] after w v t h n whole is over ahead heard short less = one-over v after n is over
-  one-ended (u ∷ us) after w v t h n whole is over ahead heard short less =
-      one-behind u (us ++ w ∷ after) (us ++ v ∷ after) a n since.one whole is (ahead u us refl)
+  one-ended [] after w v t h n whole is over ahead input heard short less = one-over v after n is over
+  one-ended (u ∷ us) after w v t h n whole is over ahead input heard short less =
+      one-behind u (us ++ w ∷ after) (us ++ v ∷ after) a n since.one whole is (ahead u us refl) input
       (λ k o. less k (one-quiet k h (behind_at 0 realm.slots) (behind_at 0 a.core.realm.slots) (heard ∙ at-elsewhere (suc (length us)) 0 t (λ e. omega arith)) short o))
 
   -- nothing is answered
-  rested : (e : Event) → AfterEvent shape past a realm e → HasOne was → Goes (machines (stages_in a.core)) nothing_yet (parts a) (lying a) (parts was) (lying was) → Handled shape a was m m p q
-  rested e event one on =
+  rested : (e : Event) → IsNoPost e → AfterEvent shape past a realm e → HasOne was → Goes (machines (stages_in a.core)) nothing_yet (parts a) (lying a) (parts was) (lying was) → Handled shape a was m m p q
+  rested e unposted event one on =
       record {
         past = past ++ Heard ∷ [];
         led = event.led;
         pushes = λ h. subst (λ (n : ℕ). ArePushed n a.core.stages.items) (sym event.age) (since.pushes goes);
         one = one;
-        went = went-quietly a was m p q gained (going-stays a was goes) (record { taken = refl; ahead = λ h. refl; input = refl; output = refl; abort = refl; stages = refl; source = refl; sink = refl; most = refl; pipe = refl; pipes = refl }) on;
+        ends = event.ends unposted since.ends;
+        went = went-quietly a was m p q gained (going-stays a was goes) (record { taken = refl; ahead = λ h. refl; input = refl; output = refl; abort = refl; stages = refl; source = refl; sink = refl; most = refl; pipe = refl; pipes = refl; first = refl; above = refl; below = refl }) on;
       }
 
   -- an event at a stage
@@ -148,8 +151,8 @@ module _ (shape : Shape) (past : List Entry) (a : Node) (realm : SeenRealm) (id 
     -- the stage is over
     over-on : (IsLive w.work → ⊥) → Handled shape a was m m p q
     over-on not_live =
-        rested (Host id call) event
-        (one-ended before after w w t (hears_in shape 0 (Host id call)) was at.whole at.whole not_live (λ u us e. refl) (heard 0 first_is) (event.short 0 first_is) (λ n o. o))
+        rested (Host id call) tt event
+        (one-ended before after w w t (hears_in shape 0 (Host id call)) was at.whole at.whole not_live (λ u us e. refl) refl (heard 0 first_is) (event.short 0 first_is) (λ n o. o))
         (over-goes shape a before after w goes since.led.is_of.stages at.whole was w refl at.whole not_live refl (λ k less other. unheard-there (coming was k) k less other))
 
     -- the stage was asked
@@ -184,6 +187,9 @@ module _ (shape : Shape) (past : List Entry) (a : Node) (realm : SeenRealm) (id 
               most = ap (λ (n : Node). n.entrance.most) b-is;
               pipe = ap (λ (n : Node). n.core.pipe) b-is;
               pipes = ap (λ (n : Node). n.core.pipes_before) b-is;
+              first = ap (λ (n : Node). n.core.first) b-is;
+              above = ap (λ (n : Node). n.entrance.above) b-is;
+              below = ap (λ (n : Node). n.exit.below) b-is;
             }
 
         went-on : Goes (machines (stages_in a.core)) nothing_yet (parts a) (lying a) (parts b) (lying b) → Went a b m m p q
@@ -200,8 +206,9 @@ module _ (shape : Shape) (past : List Entry) (a : Node) (realm : SeenRealm) (id 
             led = subst (Led shape (past ++ Heard ∷ [])) (sym ends) (led-stopped shape (past ++ Heard ∷ []) c why.NoMemory (λ e. absurd (cc)) led);
             pushes = λ e. absurd (let f : Some why.NoMemory ≡ None = sym stopped ∙ e in cc);
             one = one-ended before after w v t (hears_in shape 0 (Host id call)) b at.whole (b-items only) (λ l. subst IsLive over l)
-                (λ u us e. b-ahead only ∙ ahead u us e) (heard 0 first_is) (event.short 0 first_is)
+                (λ u us e. b-ahead only ∙ ahead u us e) (b-input only) (heard 0 first_is) (event.short 0 first_is)
                 (λ n o. subst (λ (z : Node). OneAtMost n (behind_at 0 z.core.realm.slots).items) (sym ends) (subst (λ (z : Node). OneAtMost n (behind_at 0 z.core.realm.slots).items) (sym is) o));
+            ends = ends-as shape (past ++ Heard ∷ []) was b (ap (λ (n : Node). n.entrance.above) (b-is only)) (ap (λ (n : Node). n.exit.below) (b-is only)) (λ e. goes) (event.ends tt since.ends);
             went = went-on only (stopped-goes shape a before after w goes since.led.is_of.stages at.whole b v (b-input only) (b-items only) why.NoMemory live over stopped);
           }
 
@@ -232,7 +239,7 @@ module _ (shape : Shape) (past : List Entry) (a : Node) (realm : SeenRealm) (id 
         one-from n o = all.one n (subst (λ (z : Node). OneAtMost n (behind_at 0 z.core.realm.slots).items) (sym is) o)
 
         pub on : v.pushes ≤ w.pushes + 1 → HasOne b → Goes (machines (stages_in a.core)) nothing_yet (parts a) (lying a) (parts b) (lying b) → Handled shape a b m m p q
-        on some one goes_on = record { past = (past ++ Heard ∷ []) ++ all.more; led = all.led; pushes = pushes-on some; one = one; went = went-on all.only goes_on }
+        on some one goes_on = record { past = (past ++ Heard ∷ []) ++ all.more; led = all.led; pushes = pushes-on some; one = one; ends = all.ends (ends-as shape (past ++ Heard ∷ []) was c (ap (λ (n : Node). n.entrance.above) is) (ap (λ (n : Node). n.exit.below) is) (λ e. goes) (event.ends tt since.ends)); went = went-on all.only goes_on }
 
   heard-transform : (before after : List State) (w : State) → IsAt i a.core.stages.items before w after → (v : Value) (k : ℕ) → k ≤ count_in shape
       → hears_in shape k (Host id (Transform i v)) ≡ only_at (length before) (told (v ∷ []) Open) k
@@ -248,13 +255,14 @@ module _ (shape : Shape) (past : List Entry) (a : Node) (realm : SeenRealm) (id 
       subst (λ (s : StreamId). hears_in shape k (Host id (Flush s)) ≡ only_at (length before) (told [] Closed) k) (sym at.place)
       ((each_event_is_heard_at_one_link shape.origin shape.target (count_in shape) k less).flush id (length before) (omega arith))
 
-  no-stage : (e : Event) → AfterEvent shape past a realm e → ((k : ℕ) → k ≤ count_in shape → hears_in shape k e ≡ silence) → Handled shape a was m m p q
-  no-stage e event quiet =
+  no-stage : (e : Event) → IsNoPost e → AfterEvent shape past a realm e → ((k : ℕ) → k ≤ count_in shape → hears_in shape k e ≡ silence) → Handled shape a was m m p q
+  no-stage e unposted event quiet =
       record {
         past = past ++ Heard ∷ [];
         led = event.led;
         pushes = λ h. subst (λ (n : ℕ). ArePushed n a.core.stages.items) (sym event.age) (since.pushes goes);
-        one = λ h. one-quiet a.entrance.ahead (hears_in shape 0 e) (behind_at 0 realm.slots) (behind_at 0 a.core.realm.slots) (quiet 0 (omega arith)) (event.short 0 (omega arith)) (since.one h);
+        one = λ fed h. one-quiet a.entrance.ahead (hears_in shape 0 e) (behind_at 0 realm.slots) (behind_at 0 a.core.realm.slots) (quiet 0 (omega arith)) (event.short 0 (omega arith)) (since.one fed h);
+        ends = event.ends unposted since.ends;
         went = went-rests shape a was m p q gained (going-stays a was goes) since.led.is_of.stages (record { realm = realm; stopped = a.core.stopped; is = refl })
             (λ k less. unheard-lies shape past a realm e event goes (coming a k) k less (ap in_bytes (quiet k less)));
       }
@@ -275,7 +283,7 @@ module _ (shape : Shape) (past : List Entry) (a : Node) (realm : SeenRealm) (id 
       (subst (Led shape past') (sym h.1) (led-ahead shape past' was h.0 h.2 event.led)) in
       let is : c ≡ record was { core = record was.core { stages = c.core.stages }; entrance = record was.entrance { ahead = h.0 } } = has.is ∙ ap (λ (z : Node). record z { core = record z.core { stages = c.core.stages } }) h.1 in
       let less = next_is before after w at call (told (Bytes piece ∷ []) Open) event heard in
-      let may : (more : List Entry) (z : Node) → OnlyRealm c z → MayAsk shape (past' ++ more) z (Settle id (answer_by i pushed.ending)) =
+      let may : (more : List Entry) (z : Node) → OnlyRealm c z → MayAsk shape (past' ++ more) z (Settle id (answer_by z.core.first i pushed.ending)) =
       λ more z only. may-answer shape past' more id i pushed.ending call z event.its (λ s e. cc)
       (λ code place e. ended-as i code place z.core.stages.items before after v at.place (items-now c z (before ++ v ∷ after) only has.items)
       (pushed-over v.work by.ending pushed.ending by.kept code place answers.goes_on answers.ending e))
@@ -284,7 +292,7 @@ module _ (shape : Shape) (past : List Entry) (a : Node) (realm : SeenRealm) (id 
       let t = told (Bytes piece ∷ []) Open in
       on before after w at call t event heard v c h.0 is has.items stage by.chunks all (omega (arith, pushes))
       (one-pushed before after w v piece (hears_in shape 0 (Host id call)) at.whole (b-items before after w at call t event heard v c h.0 is has.items stage all.only) live
-      (ahead-now c b n all.only has.is) (heard 0 (omega arith)) (event.short 0 (omega arith))
+      (ahead-now c b n all.only has.is) (b-input before after w at call t event heard v c h.0 is has.items stage all.only) (heard 0 (omega arith)) (event.short 0 (omega arith))
       (one-from before after w at call t event heard v c h.0 is has.items stage by.chunks all))
       (pushed-goes shape a before after w goes since.led.is_of.stages at.whole b v (b-input before after w at call t event heard v c h.0 is has.items stage all.only)
       (b-items before after w at call t event heard v c h.0 is has.items stage all.only) piece live answers.goes_on (stepped before after w at call t event heard v c h.0 is has.items stage by.chunks all))
@@ -303,7 +311,7 @@ module _ (shape : Shape) (past : List Entry) (a : Node) (realm : SeenRealm) (id 
       (over-on before after w at (Transform i (Bytes piece)) (told (Bytes piece ∷ []) Open) event (heard-transform before after w at (Bytes piece)) not_live)
   transforms piece event (NothingToPush none is) =
       subst (λ (n : Node). Handled shape a n m m p q) (sym is)
-      (no-stage (Host id (Transform i (Bytes piece))) event (λ k less. no-transform shape k id i less (no-half none) (Bytes piece)))
+      (no-stage (Host id (Transform i (Bytes piece))) tt event (λ k less. no-transform shape k id i less (no-half none) (Bytes piece)))
 
   pub flushes : AfterEvent shape past a realm (Host id (Flush i)) → Flushes id i was b → Handled shape a b m m p q
   flushes event (FlushedOne before after w v flushed at live answers stage pushes c has puts) =
@@ -314,7 +322,7 @@ module _ (shape : Shape) (past : List Entry) (a : Node) (realm : SeenRealm) (id 
       let t : Told Value = told [] Closed in
       let led = led-stages shape past' was c before after w v at.whole live stage has event.led in
       let less = next_is before after w at call t event heard in
-      let may : (more : List Entry) (z : Node) → OnlyRealm c z → MayAsk shape (past' ++ more) z (Settle id (answer_by i flushed.ending)) =
+      let may : (more : List Entry) (z : Node) → OnlyRealm c z → MayAsk shape (past' ++ more) z (Settle id (answer_by z.core.first i flushed.ending)) =
       λ more z only.
       let items : z.core.stages.items ≡ before ++ v ∷ after = items-now c z (before ++ v ∷ after) only has.items in
       may-answer shape past' more id i flushed.ending call z event.its (λ s e. cc)
@@ -324,7 +332,7 @@ module _ (shape : Shape) (past : List Entry) (a : Node) (realm : SeenRealm) (id 
       let all = subst (λ (cs : List (List ℕ)). AfterAll shape past' (length before) cs c b) answers.chunks (puts-all shape past' (length before) id i flushed c b less at.place led may puts) in
       on before after w at call t event heard v c a.entrance.ahead has.is has.items stage by.chunks all (omega (arith, pushes))
       (one-ended before after w v t (hears_in shape 0 (Host id call)) b at.whole (b-items before after w at call t event heard v c a.entrance.ahead has.is has.items stage all.only)
-      (λ l. subst IsLive answers.over l) (λ u us e. ahead-now c b was all.only has.is) (heard 0 (omega arith)) (event.short 0 (omega arith))
+      (λ l. subst IsLive answers.over l) (λ u us e. ahead-now c b was all.only has.is) (b-input before after w at call t event heard v c a.entrance.ahead has.is has.items stage all.only) (heard 0 (omega arith)) (event.short 0 (omega arith))
       (one-from before after w at call t event heard v c a.entrance.ahead has.is has.items stage by.chunks all))
       (flushed-goes shape a before after w goes since.led.is_of.stages at.whole b v (b-input before after w at call t event heard v c a.entrance.ahead has.is has.items stage all.only)
       (b-items before after w at call t event heard v c a.entrance.ahead has.is has.items stage all.only) live answers.over (stepped before after w at call t event heard v c a.entrance.ahead has.is has.items stage by.chunks all))
@@ -335,4 +343,4 @@ module _ (shape : Shape) (past : List Entry) (a : Node) (realm : SeenRealm) (id 
   flushes event (NotFlushed before after w at not_live is) =
       subst (λ (n : Node). Handled shape a n m m p q) (sym is) (over-on before after w at (Flush i) (told [] Closed) event (heard-flush before after w at) not_live)
   flushes event (NothingToFlush none is) =
-      subst (λ (n : Node). Handled shape a n m m p q) (sym is) (no-stage (Host id (Flush i)) event (λ k less. no-flush shape k id i less (no-half none)))
+      subst (λ (n : Node). Handled shape a n m m p q) (sym is) (no-stage (Host id (Flush i)) tt event (λ k less. no-flush shape k id i less (no-half none)))

@@ -18,8 +18,9 @@ use Rattle.ws_link_laws.specs.Link.{silence}
 use Rattle.ws_runner.specs.declared.node.Node.{Node}
 use Rattle.ws_runner.specs.Moves.{Asks, Performed, Refused, Enqueues, NoPiece, NotTaken, OneTaken, enqueues}
 use Rattle.ws_runner.specs.Node.{in_bytes}
-use Rattle.ws_runner.specs.Past.{IsCause, OneAtMost, Led}
-use Rattle.ws_runner.proofs.Since.{OnlyRealm, MayAsk, since-asks, dropped}
+use Rattle.ws_runner.specs.Past.{EndsHave, IsCause, OneAtMost, Led}
+use Rattle.ws_runner.proofs.Quiet.{IsNoMessage}
+use Rattle.ws_runner.proofs.Since.{OnlyRealm, MayAsk, own-failed, since-asks, dropped}
 use Rattle.ws_runner.proofs.Handing.{lies_to}
 use Rattle.ws_runner.proofs.Unheard.{alike, unlike}
 
@@ -44,9 +45,10 @@ pub record AfterQuiet (shape : Shape) (past : List Entry) (a b : Node) : Type 0 
   pub one : (m : ℕ) → OneAtMost m (behind_at 0 a.core.realm.slots).items → OneAtMost m (behind_at 0 b.core.realm.slots).items
   pub before : b.core.stopped ≡ None → a.core.stopped ≡ None
   pub older : b.core.stopped ≡ None → a.core.realm.slots.age < b.core.realm.slots.age
+  pub ends : EndsHave shape past a → EndsHave shape (past ++ more) b
 
-pub asks-quietly : (shape : Shape) (past : List Entry) (a b : Node) (c : Call) → ((k : ℕ) → enters_in shape k c ≡ silence) → Led shape past a → MayAsk shape past a c → Asks c a b → AfterQuiet shape past a b
-asks-quietly shape past a b c quiet led may asks =
+pub asks-quietly : (shape : Shape) (past : List Entry) (a b : Node) (c : Call) → IsNoMessage c → ((k : ℕ) → enters_in shape k c ≡ silence) → Led shape past a → MayAsk shape past a c → Asks c a b → AfterQuiet shape past a b
+asks-quietly shape past a b c unsent quiet led may asks =
     let after = since-asks shape past a b c led may asks in
     record {
       more = after.more;
@@ -58,6 +60,7 @@ asks-quietly shape past a b c quiet led may asks =
           (subst (λ (q : Told Value). OneAtMost m q.items) (sym (then_empty (behind_at 0 a.core.realm.slots))) o));
       before = asked-before c a b asks;
       older = λ e. let f = after.older e in omega arith;
+      ends = after.ends unsent;
     }
 
 pub quiet-then : (shape : Shape) (past : List Entry) (a b c : Node) → (first : AfterQuiet shape past a b) → AfterQuiet shape (past ++ first.more) b c → AfterQuiet shape past a c
@@ -70,6 +73,7 @@ quiet-then shape past a b c first second =
       one = λ m o. second.one m (first.one m o);
       before = λ e. first.before (second.before e);
       older = λ e. let f = first.older (second.before e) in let g = second.older e in omega arith;
+      ends = λ h. subst (λ q. EndsHave shape q c) (append_assoc past first.more second.more) (second.ends (first.ends h));
     }
 
 pub settle-quiet : (shape : Shape) (id : HostId) (x : Answer) (k : ℕ) → enters_in shape k (Settle id x) ≡ silence
@@ -85,10 +89,11 @@ pub record AfterPuts (shape : Shape) (past : List Entry) (m : ℕ) (chunks : Lis
   pub elsewhere : (t : Told (List ℕ)) (k : ℕ) → k ≤ count_in shape → k ≢ suc m → IsShortOf (lies_to t b k) (lies_to t a k)
   pub one : (q : ℕ) → OneAtMost q (behind_at 0 a.core.realm.slots).items → OneAtMost q (behind_at 0 b.core.realm.slots).items
   pub older : b.core.stopped ≡ None → a.core.realm.slots.age ≤ b.core.realm.slots.age
+  pub ends : EndsHave shape past a → EndsHave shape (past ++ more) b
 
 module _ (shape : Shape) (m : ℕ) (less : suc m ≤ count_in shape) where
   may-enqueue : (past : List Entry) (a : Node) (piece : List ℕ) → MayAsk shape past a (enqueues (source_of (suc m)) piece)
-  may-enqueue past a piece = record { is_own = tt; failed = All-nil (IsCause a); closes = λ id e c. absurd (cc); flushes = λ id i e c first last w at. absurd (cc) }
+  may-enqueue past a piece = record { is_own = tt; clones = refl; failed = own-failed shape a (enqueues (source_of (suc m)) piece) (All-nil (IsCause a)); closes = λ id e c. absurd (cc); flushes = λ id i e c first last w at. absurd (cc) }
 
   brings : (piece : List ℕ) (k : ℕ) → enters_in shape k (enqueues (source_of (suc m)) piece) ≡ only_at (suc m) (told (Bytes piece ∷ []) Open) k
   brings piece k = (each_nodes_call_brings shape.origin k).enqueue (suc m) (Bytes piece)
@@ -111,6 +116,7 @@ module _ (shape : Shape) (m : ℕ) (less : suc m ≤ count_in shape) where
     elsewhere : (t : Told (List ℕ)) (k : ℕ) → k ≤ count_in shape → k ≢ suc m → IsShortOf (lies_to t b k) (lies_to t a k)
     one : (q : ℕ) → OneAtMost q (behind_at 0 a.core.realm.slots).items → OneAtMost q (behind_at 0 b.core.realm.slots).items
     older : b.core.stopped ≡ None → b.core.realm.slots.age ≡ suc a.core.realm.slots.age
+    ends : EndsHave shape past a → EndsHave shape (past ++ more) b
 
   puts-one : (past : List Entry) (piece : List ℕ) (a b : Node) → Led shape past a → Asks (enqueues (source_of (suc m)) piece) a b → AfterOne past piece a b
   puts-one past piece a b led asks =
@@ -125,6 +131,7 @@ module _ (shape : Shape) (m : ℕ) (less : suc m ≤ count_in shape) where
             (subst (λ (v : Told Value). OneAtMost q (then_told (behind_at 0 a.core.realm.slots) v).items) (sym (brings-elsewhere piece 0 not_first))
             (subst (λ (v : Told Value). OneAtMost q v.items) (sym (then_empty (behind_at 0 a.core.realm.slots))) o));
         older = after.older;
+        ends = after.ends tt;
       }
 
   pub puts : (past : List Entry) (chunks : List (List ℕ)) (a b : Node) → Led shape past a → Enqueues (source_of (suc m)) chunks a b → AfterPuts shape past m chunks a b
@@ -137,6 +144,7 @@ module _ (shape : Shape) (m : ℕ) (less : suc m ≤ count_in shape) where
         elsewhere = λ t k l other. short_refl (lies_to t a k);
         one = λ q o. o;
         older = λ e. omega arith;
+        ends = λ h. subst (λ q. EndsHave shape q a) (sym (append-nil past)) h;
       }
   puts past chunks a b led (NotTaken piece rest x y asks not_done) =
       let first = puts-one past piece a b led asks in
@@ -148,6 +156,7 @@ module _ (shape : Shape) (m : ℕ) (less : suc m ≤ count_in shape) where
         elsewhere = first.elsewhere;
         one = first.one;
         older = λ e. let f = first.older e in omega arith;
+        ends = first.ends;
       }
   puts past chunks a b led (OneTaken piece rest x y c asks done after) =
       let first = puts-one past piece a c led asks in
@@ -160,4 +169,5 @@ module _ (shape : Shape) (m : ℕ) (less : suc m ≤ count_in shape) where
         elsewhere = λ t k l other. short_trans _ _ _ (next.elsewhere t k l other) (first.elsewhere t k l other);
         one = λ q o. next.one q (first.one q o);
         older = λ e. let f = first.older done.goes_on in let g = next.older e in omega arith;
+        ends = λ h. subst (λ q. EndsHave shape q b) (append_assoc past first.more next.more) (next.ends (first.ends h));
       }

@@ -31,11 +31,13 @@ use Rattle.ws_steps.specs.declared.calls.HostCall.TheVariants.{Pull}
 use Rattle.ws_steps.specs.Run.{Entry}
 use Rattle.ws_end_laws.specs.hosts.HostCalls.{called, settles_well}
 use Rattle.ws_link_laws.specs.Link.{lets_in, silence}
-use Rattle.ws_chain_laws.specs.Chain.{Origin, FromBytes, giver, source_of, behind_at}
+use Rattle.ws_chain_laws.specs.Chain.{Origin, FromBytes, FromChunks, FromPort, giver, source_of, behind_at}
 use Rattle.ws_chain_laws.specs.Nodes.{finishes, only_at}
 use Rattle.ws_chain_laws.proofs.Nodes.{each_nodes_call_brings}
 use Rattle.ws_realm.specs.declared.realm.Why.{Why}
 use Rattle.ws_realm.specs.declared.realm.Why.TheVariants.{NoMemory}
+use Rattle.ws_runner.specs.declared.node.Entrance.{Entrance}
+use Rattle.ws_runner.specs.declared.node.Exit.{Exit}
 use Rattle.ws_runner.specs.declared.node.Input.{Input}
 use Rattle.ws_runner.specs.declared.node.Input.TheVariants as input
 use Rattle.ws_runner.specs.declared.node.Node.{Node}
@@ -43,14 +45,15 @@ use Rattle.ws_runner.specs.declared.node.Output.{Output}
 use Rattle.ws_runner.specs.declared.node.Output.TheVariants as output
 use Rattle.ws_runner.specs.Host.{GivesPiece, IsPiece}
 use Rattle.ws_runner.specs.Moves.{Asks, Performed, Refused, settles, takes_bytes, Takes, Reads, ReadNot, Wanted, ReadOnce}
-use Rattle.ws_runner.specs.Node.{in_bytes, lost_by, coming, coming_behind, lying_by, lies, lies_in, lying, nothing_yet, parts, stages_in, works_in}
-use Rattle.ws_runner.specs.Past.{IsCause, IsPull, Counts, ArePushed, OneAtMost, may_have, Led, Since}
-use Rattle.ws_runner.specs.Went.{InputGoes, OutputGoes, AbortGoes}
+use Rattle.ws_runner.specs.Node.{in_bytes, feeds_edge, is_edge, lost_by, coming, coming_behind, lying_by, lies, lies_in, lying, nothing_yet, parts, stages_in, works_in}
+use Rattle.ws_runner.specs.Past.{EndsHave, IsCause, IsFedAs, IsPull, Counts, ArePushed, OneAtMost, Own, may_have, Led, Since}
+use Rattle.ws_runner.specs.Went.{AbortGoes, ByInput, GoesOut, InputGoes, OutputGoes, ToEdge, ToOutput}
 use Rattle.ws_runner.proofs.Changes.{answering, led-input, led-unasked, led-stopped}
 use Rattle.ws_runner.proofs.Entries.{called-longer}
-use Rattle.ws_runner.proofs.Going.{abort-same, as-many, works-count, going-acts, going-stays, went-quietly, went-same, only-same}
+use Rattle.ws_runner.proofs.Going.{SameCounts, abort-same, as-many, ends-same, held-goes, works-count, going-acts, going-stays, went-quietly, went-same, only-same}
 use Rattle.ws_runner.proofs.Handled.{Handled}
-use Rattle.ws_runner.proofs.Since.{OnlyRealm, MayAsk, since-asks}
+use Rattle.ws_runner.proofs.Quiet.{IsNoMessage, ends-as}
+use Rattle.ws_runner.proofs.Since.{OnlyRealm, MayAsk, own-failed, since-asks}
 
 -- where all that was read was had, nothing is behind the host
 none-behind : (n : ℕ) (vs : List Value) → n ≡ 0 → OneAtMost n vs → vs ≡ []
@@ -95,8 +98,9 @@ pull-may : (shape : Shape) (past : List Entry) (n : Node) (id : HostId) (i : Str
 pull-may shape past n id i pull =
     record {
       is_own = tt;
-      failed = All-nil (IsCause n);
-      closes = λ j e close. let f = other-call (called past) id j _ _ (id_of id j _ _ refl refl e) pull close in absurd (cc);
+      clones = tt;
+      failed = own-failed shape n (settles id) (All-nil (IsCause n));
+      closes = λ j e close feeds. let f = other-call (called past) id j _ _ (id_of id j _ _ refl refl e) pull close in absurd (cc);
       flushes = λ j k e flush first last w at. let f = other-call (called past) id j _ _ (id_of id j _ _ refl refl e) pull flush in absurd (cc);
     }
 
@@ -117,6 +121,7 @@ record Both (shape : Shape) (past : List Entry) (c : Call) (n b : Node) : Type 0
   pub short : (d : ℕ → Told (List ℕ)) (k : ℕ) → k ≤ count_in shape → IsShortOf (lies d b k) (lies (λ j. then_told (in_bytes (enters_in shape j c)) (d j)) n k)
   pub one : (m : ℕ) → OneAtMost m (then_told (behind_at 0 n.core.realm.slots) (enters_in shape 0 c)).items → OneAtMost m (behind_at 0 b.core.realm.slots).items
   pub older : b.core.stopped ≡ None → n.core.realm.slots.age ≤ b.core.realm.slots.age
+  pub ends : EndsHave shape past n → EndsHave shape more b
 
 going-on : (c : Call) (a b : Node) → Asks c a b → b.core.stopped ≡ None → a.core.stopped ≡ None
 going-on c a b (Performed realm slots young goes is) e = goes
@@ -131,9 +136,9 @@ settled-short shape mid b id d k h =
 settled-one : (shape : Shape) (x : Told Value) (c : Call) (m : ℕ) → enters_in shape 0 c ≡ silence → OneAtMost m x.items → OneAtMost m (then_told x (enters_in shape 0 c)).items
 settled-one shape x c m e o = subst (λ (q : Told Value). OneAtMost m q.items) (sym (ap (λ q. then_told x q) e ∙ then_empty x)) o
 
-both : (shape : Shape) (past : List Entry) (n mid b : Node) (c : Call) (id : HostId) (i : StreamId) → slice_get (called past) id.0 ≡ Some (Pull i) → Led shape past n
+both : (shape : Shape) (past : List Entry) (n mid b : Node) (c : Call) (id : HostId) (i : StreamId) → IsNoMessage c → slice_get (called past) id.0 ≡ Some (Pull i) → Led shape past n
     → MayAsk shape past n c → Asks c n mid → Asks (settles id) mid b → Both shape past c n b
-both shape past n mid b c id i pull led may asks settles_it =
+both shape past n mid b c id i unsent pull led may asks settles_it =
     let first = since-asks shape past n mid c led may asks in
     let second = since-asks shape (past ++ first.more) mid b (settles id) first.led (pull-may shape (past ++ first.more) mid id i (called-longer past first.more id (Pull i) pull)) settles_it in
     record {
@@ -146,6 +151,7 @@ both shape past n mid b c id i pull led may asks settles_it =
           let one = second.older going in
           let other = first.older (going-on (settles id) mid b settles_it going) in
           omega arith;
+      ends = λ h. second.ends tt (first.ends unsent h);
     }
 
 -- what a read brings to the link that comes from the source: the end of the input, or bytes
@@ -167,12 +173,52 @@ not-first : (t : Told Value) (j : ℕ) → only_at 0 t (suc j) ≡ silence
 not-first t j = let other : nat_eq (suc j) 0 ≡ false = grind (arith, nat_tests) in rw other refl
 
 -- an output that isn't touched
-output-calm : (o : Output) (wf : ℕ) (finished : Option Bool) (before now : ℕ) (old new : Option Feed)
+output-calm : (o : Output) (wf : ℕ) (finished : Option Bool) (before now : ℕ) (old new : Option Feed) → feeds_edge o ≡ false
     → OutputGoes o o [] MayCome (moment before old wf finished) (moment now new wf finished)
-output-calm output.Open wf finished before now old new = (refl, refl, KeepsTold-same finished)
-output-calm output.Finished wf finished before now old new = (refl, record { none = refl; calm = refl; finished = refl })
-output-calm output.Failed wf finished before now old new = (refl, record { none = refl; calm = refl; finished = refl })
-output-calm output.Aborted wf finished before now old new = (refl, record { none = refl; calm = refl; finished = refl })
+output-calm output.Open wf finished before now old new e = (refl, refl, KeepsTold-same finished)
+output-calm output.Finished wf finished before now old new e = (refl, record { none = refl; calm = refl; finished = refl })
+output-calm output.Failed wf finished before now old new e = (refl, record { none = refl; calm = refl; finished = refl })
+output-calm output.Aborted wf finished before now old new e = (refl, record { none = refl; calm = refl; finished = refl })
+output-calm output.Edge wf finished before now old new e = absurd (cc)
+
+-- nor is an edge
+goes-calmly : (a b : Exit) (wf : ℕ) (finished : Option Bool) (before now : ℕ) (old new : Option Feed) (p : List ℕ → Type 0) → b.output ≡ a.output → b.abort ≡ a.abort → b.sink ≡ a.sink
+    → b.below ≡ a.below → GoesOut a b (moment before old wf finished) (moment now new wf finished) p p nothing_yet [] MayCome
+goes-calmly a b wf finished before now old new p same abort sink below = by (feeds_edge a.output) refl where
+  by : (t : Bool) → feeds_edge a.output ≡ t → GoesOut a b (moment before old wf finished) (moment now new wf finished) p p nothing_yet [] MayCome
+  by false e =
+      ToOutput e
+      (record {
+        gained = Gains-nothing p;
+        written = (refl, refl);
+        output = subst (λ o. OutputGoes a.output o [] MayCome (moment before old wf finished) (moment now new wf finished)) (sym same) (output-calm a.output wf finished before now old new e);
+        abort = subst (λ x. AbortGoes a.abort x [] [] b.output) (sym abort) (abort-same a.abort [] b.output);
+        sink = sink;
+        below = below;
+      })
+  by true e =
+      ToEdge e
+      (record {
+        taken = [];
+        posted = [];
+        end = ends-same a.below b.below below;
+        went_is = refl;
+        gained = Gains-nothing p;
+        output = same;
+        may_come = refl;
+        alone = record { none = refl; calm = refl; finished = refl };
+        abort = abort;
+        sink = sink;
+      })
+
+-- a node whose input may be read is fed by it
+not-edge : (i : Input) → i ≡ input.Open → is_edge i ≡ false
+not-edge i e = ap (λ (x : Input). is_edge x) e
+
+from-bytes : (o : Origin) (e : Entrance) → IsFedAs o e → is_edge e.input ≡ false → o ≡ FromBytes
+from-bytes FromBytes e h unsent = refl
+from-bytes FromPort e h unsent = absurd (let f = h.0 in cc)
+from-bytes FromChunks e h unsent = absurd h
 
 pushed-on : (m n : ℕ) (ws : List State) → m ≤ n → ArePushed m ws → ArePushed n ws
 pushed-on m n ws less h k d within = let few = h k d within in omega arith
@@ -222,22 +268,25 @@ module _ (wf : ℕ) (finished : Option Bool) (p : List ℕ → Type 0) (shape : 
     is_pull = subst (IsPull past) asked s.led.asked
 
     none : may_have a.core.stages.items a.exit.output a.exit.abort ≡ true → (behind_at 0 a.core.realm.slots).items ≡ []
-    none may = none-behind a.entrance.ahead (behind_at 0 a.core.realm.slots).items written (s.one may)
+    none may = none-behind a.entrance.ahead (behind_at 0 a.core.realm.slots).items written (s.one (not-edge a.entrance.input was_open) may)
+
+    bytes : shape.origin ≡ FromBytes
+    bytes = from-bytes shape.origin a.entrance s.led.is_of.from (not-edge a.entrance.input was_open)
 
     few : a.entrance.taken ≤ a.entrance.most
     few = s.led.counts.within (λ e. let f = was_open in cc)
 
     -- what was read came in by this call
-    took : (taken ahead : ℕ) (i : Input) (c : Call) (mid : Node) (read : Told (List ℕ)) → Counts a.entrance.most taken ahead i → MayAsk shape past (answering taken ahead i a) c
+    took : (taken ahead : ℕ) (i : Input) (c : Call) (mid : Node) (read : Told (List ℕ)) → is_edge i ≡ false → IsNoMessage c → Counts a.entrance.most taken ahead i → MayAsk shape past (answering taken ahead i a) c
         → Asks c (answering taken ahead i a) mid → Asks (settles id) mid b → ((j : ℕ) → enters_in shape (suc j) c ≡ silence)
         → IsShortOf (then_told (in_bytes (enters_in shape 0 c)) (lost_by i)) read
         → ((behind_at 0 a.core.realm.slots).items ≡ [] → OneAtMost ahead (then_told (behind_at 0 a.core.realm.slots) (enters_in shape 0 c)).items)
         → Fed old new (concat read.items) → All (λ c. length c ≤ 4096) read.items → taken ≡ a.entrance.taken + length (concat read.items) → length (concat read.items) ≤ ahead
         → InputGoes a.entrance.input i read m₀ m₁ → Handled shape a b m₀ m₁ p p
-    took taken ahead i c mid read counts may asks settles_it silent came one fed short counted had goes_in =
+    took taken ahead i c mid read no_edge unsent counts may asks settles_it silent came one fed short counted had goes_in =
         let n : Node = answering taken ahead i a in
-        let h = both shape past n mid b c id is_pull.0 is_pull.1 (led-input shape past a taken ahead i was_open counts s.led) may asks settles_it in
-        let same = only-same n b h.only in
+        let h = both shape past n mid b c id is_pull.0 unsent is_pull.1 (led-input shape past a taken ahead i was_open no_edge counts s.led) may asks settles_it in
+        let same : SameCounts n b = only-same n b h.only in
         let items : b.core.stages.items ≡ a.core.stages.items = ap (λ (q : Node). q.core.stages.items) h.only.is in
         let ahead_is : b.entrance.ahead ≡ ahead = ap (λ (q : Node). q.entrance.ahead) h.only.is in
         let taken_is : b.entrance.taken ≡ taken = same.taken in
@@ -250,7 +299,8 @@ module _ (wf : ℕ) (finished : Option Bool) (p : List ℕ → Type 0) (shape : 
           past = h.more;
           led = h.led;
           pushes = λ going. subst (λ ws. ArePushed b.core.realm.slots.age ws) (sym items) (pushed-on a.core.realm.slots.age b.core.realm.slots.age a.core.stages.items (h.older going) (s.pushes goes));
-          one = λ may_be. subst (λ q. OneAtMost q (behind_at 0 b.core.realm.slots).items) (sym ahead_is)
+          ends = h.ends (ends-as shape past a n refl refl (λ e. e) s.ends);
+          one = λ fed_so may_be. subst (λ q. OneAtMost q (behind_at 0 b.core.realm.slots).items) (sym ahead_is)
               (h.one ahead (one (none (subst (λ (q : Node). may_have q.core.stages.items q.exit.output q.exit.abort ≡ true) h.only.is may_be))));
           went = record {
             read = read;
@@ -261,30 +311,28 @@ module _ (wf : ℕ) (finished : Option Bool) (p : List ℕ → Type 0) (shape : 
               moves = (
                 record {
                   stages = same.stages;
-                  goes = reads-goes shape a b read s.led.is_of.stages (ap (λ (q : Node). works_in q.core) h.only.is) first
-                      (λ j less. passes-at shape a c j (coming b) b (coming_is j) (silent j) (h.short (coming b) (suc j) less));
+                  goes = held-goes a b read same.below
+                      (reads-goes shape a b read s.led.is_of.stages (ap (λ (q : Node). works_in q.core) h.only.is) first
+                      (λ j less. passes-at shape a c j (coming b) b (coming_is j) (silent j) (h.short (coming b) (suc j) less)));
                 },
                 tt,
               );
               pipe = same.pipe;
               pipes = same.pipes;
+              first = same.first;
             };
-            from = record {
-              fed = fed;
-              short = short;
-              counted = taken_is ∙ counted;
-              input = subst (λ q. InputGoes a.entrance.input q read m₀ m₁) (sym input_is) goes_in;
-              source = same.source;
-              most = same.most;
-            };
-            into = record {
-              gained = Gains-nothing p;
-              written = (refl, refl);
-              output = subst (λ o. OutputGoes a.exit.output o [] MayCome m₀ m₁) (sym same.output) (output-calm a.exit.output wf finished before now old new);
-              abort = subst (λ x. AbortGoes a.exit.abort x [] [] b.exit.output) (sym same.abort) (abort-same a.exit.abort [] b.exit.output);
-              sink = same.sink;
-            };
-            ahead = λ e. omega arith;
+            from = ByInput (not-edge a.entrance.input was_open)
+                (record {
+                  fed = fed;
+                  short = short;
+                  counted = taken_is ∙ counted;
+                  input = subst (λ q. InputGoes a.entrance.input q read m₀ m₁) (sym input_is) goes_in;
+                  source = same.source;
+                  most = same.most;
+                  above = same.above;
+                });
+            into = goes-calmly a.exit b.exit wf finished before now old new p same.output same.abort same.sink same.below;
+            ahead = λ e by to. omega arith;
             stays = going-acts a b m₀ m₁ read [] goes;
           };
         }
@@ -297,12 +345,12 @@ module _ (wf : ℕ) (finished : Option Bool) (p : List ℕ → Type 0) (shape : 
         let bound = counts.bound in
         let room = counts.piece in
         let fewer = few in
-        took a.entrance.taken a.entrance.ahead input.Ended (Finish a.entrance.source) c (told [] Closed)
+        took a.entrance.taken a.entrance.ahead input.Ended (Finish a.entrance.source) c (told [] Closed) refl tt
         (record { limited = omega arith; bound = omega arith; within = λ e. fewer; beyond = λ e. absurd (cc); piece = omega arith; failed = λ e. absurd (cc) })
-        (record { is_own = (0, omega arith, s.led.is_of.source); failed = All-nil (IsCause (answering a.entrance.taken a.entrance.ahead input.Ended a)); closes = λ i e. absurd (cc); flushes = λ i j e. absurd (cc) })
-        asks settles_it (λ j. finish-at shape a.entrance.source s.led.is_of.from s.led.is_of.source (suc j) ∙ not-first (told [] Closed) j)
-        (subst (λ (t : Told Value). IsShortOf (then_told (in_bytes t) (lost_by input.Ended)) (told [] Closed)) (sym (finish-at shape a.entrance.source s.led.is_of.from s.led.is_of.source 0)) (refl, refl))
-        (λ e. subst (λ q. OneAtMost a.entrance.ahead (then_told (behind_at 0 a.core.realm.slots) q).items) (sym (finish-at shape a.entrance.source s.led.is_of.from s.led.is_of.source 0)) (one-closes a.entrance.ahead (behind_at 0 a.core.realm.slots) Closed e))
+        (record { is_own = (0, omega arith, s.led.is_of.source); clones = tt; failed = own-failed shape (answering a.entrance.taken a.entrance.ahead input.Ended a) (Finish a.entrance.source) (All-nil (IsCause (answering a.entrance.taken a.entrance.ahead input.Ended a))); closes = λ i e. absurd (cc); flushes = λ i j e. absurd (cc) })
+        asks settles_it (λ j. finish-at shape a.entrance.source bytes s.led.is_of.source (suc j) ∙ not-first (told [] Closed) j)
+        (subst (λ (t : Told Value). IsShortOf (then_told (in_bytes t) (lost_by input.Ended)) (told [] Closed)) (sym (finish-at shape a.entrance.source bytes s.led.is_of.source 0)) (refl, refl))
+        (λ e. subst (λ q. OneAtMost a.entrance.ahead (then_told (behind_at 0 a.core.realm.slots) q).items) (sym (finish-at shape a.entrance.source bytes s.led.is_of.source 0)) (one-closes a.entrance.ahead (behind_at 0 a.core.realm.slots) Closed e))
         piece.moved (All-nil (λ c. length c ≤ 4096)) (omega arith) (omega arith)
         (rw was_open (refl, piece.calm, (piece.end refl).1, IsEmpty-kept old new [] (piece.end refl).0 piece.moved))
 
@@ -316,9 +364,9 @@ module _ (wf : ℕ) (finished : Option Bool) (p : List ℕ → Type 0) (shape : 
         let room = counts.piece in
         let fewer = few in
         let n : Node = answering a.entrance.taken a.entrance.ahead input.Failed a in
-        took a.entrance.taken a.entrance.ahead input.Failed (Fail a.entrance.source (FaultReason ReadFault)) c (told [] Lost)
+        took a.entrance.taken a.entrance.ahead input.Failed (Fail a.entrance.source (FaultReason ReadFault)) c (told [] Lost) refl tt
         (record { limited = omega arith; bound = omega arith; within = λ e. fewer; beyond = λ e. absurd (cc); piece = omega arith; failed = λ e. written })
-        (record { is_own = (0, omega arith, s.led.is_of.source); failed = All-cons (IsCause n) (FaultReason ReadFault) [] refl (All-nil (IsCause n)); closes = λ i e. absurd (cc); flushes = λ i j e. absurd (cc) })
+        (record { is_own = (0, omega arith, s.led.is_of.source); clones = refl; failed = own-failed shape n (Fail a.entrance.source (FaultReason ReadFault)) (All-cons (IsCause n) (FaultReason ReadFault) [] (Own refl) (All-nil (IsCause n))); closes = λ i e. absurd (cc); flushes = λ i j e. absurd (cc) })
         asks settles_it (λ j. (each_nodes_call_brings shape.origin (suc j)).fail a.entrance.source (FaultReason ReadFault))
         (subst (λ (t : Told Value). IsShortOf (then_told (in_bytes t) (lost_by input.Failed)) (told [] Lost)) (sym ((each_nodes_call_brings shape.origin 0).fail a.entrance.source (FaultReason ReadFault))) ([], refl))
         (λ e. subst (λ q. OneAtMost a.entrance.ahead (then_told (behind_at 0 a.core.realm.slots) q).items) (sym ((each_nodes_call_brings shape.origin 0).fail a.entrance.source (FaultReason ReadFault)))
@@ -348,9 +396,9 @@ module _ (wf : ℕ) (finished : Option Bool) (p : List ℕ → Type 0) (shape : 
           let fewer = few in
           let counted = count in
           let n : Node = answering (a.entrance.taken + length (x ∷ rest)) (length (x ∷ rest)) input.TooLong a in
-          took (a.entrance.taken + length (x ∷ rest)) (length (x ∷ rest)) input.TooLong (Fail a.entrance.source (FaultReason TooMuch)) c (told ((x ∷ rest) ∷ []) Lost)
+          took (a.entrance.taken + length (x ∷ rest)) (length (x ∷ rest)) input.TooLong (Fail a.entrance.source (FaultReason TooMuch)) c (told ((x ∷ rest) ∷ []) Lost) refl tt
           (record { limited = omega arith; bound = omega arith; within = λ e. absurd (e refl); beyond = λ e. more; piece = omega arith; failed = λ e. absurd (cc) })
-          (record { is_own = (0, omega arith, s.led.is_of.source); failed = All-cons (IsCause n) (FaultReason TooMuch) [] refl (All-nil (IsCause n)); closes = λ i e. absurd (cc); flushes = λ i j e. absurd (cc) })
+          (record { is_own = (0, omega arith, s.led.is_of.source); clones = refl; failed = own-failed shape n (Fail a.entrance.source (FaultReason TooMuch)) (All-cons (IsCause n) (FaultReason TooMuch) [] (Own refl) (All-nil (IsCause n))); closes = λ i e. absurd (cc); flushes = λ i j e. absurd (cc) })
           asks settles_it (λ j. (each_nodes_call_brings shape.origin (suc j)).fail a.entrance.source (FaultReason TooMuch))
           (subst (λ (t : Told Value). IsShortOf (then_told (in_bytes t) (lost_by input.TooLong)) (told ((x ∷ rest) ∷ []) Lost)) (sym ((each_nodes_call_brings shape.origin 0).fail a.entrance.source (FaultReason TooMuch)))
           ((x ∷ rest) ∷ [], refl))
@@ -365,13 +413,13 @@ module _ (wf : ℕ) (finished : Option Bool) (p : List ℕ → Type 0) (shape : 
           let limited = counts.limited in
           let short = piece.short in
           let counted = count in
-          took (a.entrance.taken + length (x ∷ rest)) (length (x ∷ rest)) a.entrance.input (Enqueue a.entrance.source (Bytes (x ∷ rest))) c (told ((x ∷ rest) ∷ []) MayCome)
+          took (a.entrance.taken + length (x ∷ rest)) (length (x ∷ rest)) a.entrance.input (Enqueue a.entrance.source (Bytes (x ∷ rest))) c (told ((x ∷ rest) ∷ []) MayCome) (not-edge a.entrance.input was_open) tt
           (record { limited = omega arith; bound = omega arith; within = λ e. within; beyond = λ e. let f = was_open in absurd (cc); piece = omega arith; failed = λ e. let f = was_open in absurd (cc) })
-          (record { is_own = tt; failed = All-nil (IsCause (answering (a.entrance.taken + length (x ∷ rest)) (length (x ∷ rest)) a.entrance.input a)); closes = λ i e. absurd (cc); flushes = λ i j e. absurd (cc) })
-          asks settles_it (λ j. bytes-at shape a.entrance.source s.led.is_of.from s.led.is_of.source x rest (suc j) ∙ not-first (told (Bytes (x ∷ rest) ∷ []) MayCome) j)
+          (record { is_own = tt; clones = refl; failed = own-failed shape (answering (a.entrance.taken + length (x ∷ rest)) (length (x ∷ rest)) a.entrance.input a) (Enqueue a.entrance.source (Bytes (x ∷ rest))) (All-nil (IsCause (answering (a.entrance.taken + length (x ∷ rest)) (length (x ∷ rest)) a.entrance.input a))); closes = λ i e. absurd (cc); flushes = λ i j e. absurd (cc) })
+          asks settles_it (λ j. bytes-at shape a.entrance.source bytes s.led.is_of.source x rest (suc j) ∙ not-first (told (Bytes (x ∷ rest) ∷ []) MayCome) j)
           (subst (λ (i : Input). IsShortOf (then_told (in_bytes (enters_in shape 0 (Enqueue a.entrance.source (Bytes (x ∷ rest))))) (lost_by i)) (told ((x ∷ rest) ∷ []) MayCome)) (sym was_open)
-          (subst (λ (t : Told Value). IsShortOf (then_told (in_bytes t) nothing_yet) (told ((x ∷ rest) ∷ []) MayCome)) (sym (bytes-at shape a.entrance.source s.led.is_of.from s.led.is_of.source x rest 0)) (refl, refl)))
-          (λ e. subst (λ q. OneAtMost (length (x ∷ rest)) (then_told (behind_at 0 a.core.realm.slots) q).items) (sym (bytes-at shape a.entrance.source s.led.is_of.from s.led.is_of.source x rest 0))
+          (subst (λ (t : Told Value). IsShortOf (then_told (in_bytes t) nothing_yet) (told ((x ∷ rest) ∷ []) MayCome)) (sym (bytes-at shape a.entrance.source bytes s.led.is_of.source x rest 0)) (refl, refl)))
+          (λ e. subst (λ q. OneAtMost (length (x ∷ rest)) (then_told (behind_at 0 a.core.realm.slots) q).items) (sym (bytes-at shape a.entrance.source bytes s.led.is_of.source x rest 0))
           (one-comes (length (x ∷ rest)) (x ∷ rest) (behind_at 0 a.core.realm.slots) e refl (omega arith)))
           fed_all one_short (omega arith) (omega arith)
           (subst (λ (i : Input). InputGoes i i (told ((x ∷ rest) ∷ []) MayCome) m₀ m₁) (sym was_open) (refl, piece.calm, piece.before_end (omega arith)))
@@ -397,8 +445,9 @@ wanted shape past a m p s goes =
       led = led-stopped shape past (record a { entrance = record a.entrance { asked = None } }) NoMemory (λ e. absurd (cc)) (led-unasked shape past a s.led);
       pushes = λ e. absurd (cc);
       one = s.one;
+      ends = ends-as shape past a b refl refl (λ e. absurd (cc)) s.ends;
       went = went-quietly a b m p p (Gains-nothing p) (going-stays a b goes)
-          (record { taken = refl; ahead = λ e. refl; input = refl; output = refl; abort = refl; stages = refl; source = refl; sink = refl; most = refl; pipe = refl; pipes = refl })
+          (record { taken = refl; ahead = λ e. refl; input = refl; output = refl; abort = refl; stages = refl; source = refl; sink = refl; most = refl; pipe = refl; pipes = refl; first = refl; above = refl; below = refl })
           (goes_rests (machines (stages_in a.core)) 0 (works_in a.core) (lies_in a) (lies_in b) (as-many a) (λ j h k. ((lies_in a j).items, refl)));
     }
 
@@ -406,7 +455,7 @@ wanted shape past a m p s goes =
 pub reads : (wf : ℕ) (finished : Option Bool) (p : List ℕ → Type 0) (shape : Shape) (past : List Entry) (a b : Node) (old new : Option Feed) (before now : ℕ) → Since shape past a
     → Reads a b old new before now → Handled shape a b (moment before old wf finished) (moment now new wf finished) p p
 reads wf finished p shape past a b old new before now s (ReadNot none same unread) =
-    rw (same, unread.feed, unread.calm) (record { past = past; led = s.led; pushes = s.pushes; one = s.one; went = went-same a (moment before old wf finished) p })
+    rw (same, unread.feed, unread.calm) (record { past = past; led = s.led; pushes = s.pushes; one = s.one; ends = s.ends; went = went-same a (moment before old wf finished) p })
 reads wf finished p shape past a b old new before now s (Wanted goes unread id asked same) =
     rw (same, unread.feed, unread.calm) (wanted shape past a (moment before old wf finished) p s goes)
 reads wf finished p shape past a b old new before now s (ReadOnce goes written was_open id asked want most limit piece gives c takes settles_it) =

@@ -1,14 +1,11 @@
 -- A node stays one that its past led to, as its realm performs calls and jobs and its host hears of events.
-use Rattle.std.proofs.Common.{◌≡◌, ◌≢◌, ◌+◌, ◌≤◌, ℕ, zero, suc, List, [], ◌∷◌, ◌++◌, length, Option, Some, None, refl, sym, ap, ◌∙◌, subst, append-nil, append_assoc, arith}
+use Rattle.std.proofs.Common.{◌≡◌, ◌≢◌, ◌+◌, ◌≤◌, ℕ, zero, suc, false, List, [], ◌∷◌, ◌++◌, length, Option, Some, None, refl, sym, ap, ◌∙◌, subst, append-nil, append_assoc, arith}
 use Rattle.std.specs.Prelude.{slice_get, All}
 use Rattle.std.proofs.lemmas.List.{length-map}
-use Rattle.std.proofs.lemmas.List.Elements.{All-nil, All-append, All-weaker}
-use Rattle.ws_value.specs.declared.fault.Fault.{Fault}
-use Rattle.ws_value.specs.declared.fault.Fault.TheVariants as fault
 use Rattle.ws_value.specs.declared.ids.HostId.{HostId}
+use Rattle.ws_value.specs.declared.ids.PortId.{PortId}
 use Rattle.ws_value.specs.declared.ids.StreamId.{StreamId}
-use Rattle.ws_value.specs.declared.value.Plain.{Plain}
-use Rattle.ws_value.specs.declared.value.Plain.TheVariants as plain
+use Rattle.ws_value.specs.declared.value.Message.{Message}
 use Rattle.ws_value.specs.declared.value.Value.{Value}
 use Rattle.ws_value.specs.declared.value.Value.TheVariants.{Bytes}
 use Rattle.ws_flow.specs.declared.plan.Ending.TheVariants.{Fine}
@@ -24,6 +21,8 @@ use Rattle.ws_steps.specs.declared.calls.Event.{Event}
 use Rattle.ws_steps.specs.declared.calls.Event.TheVariants.{Host, Settled, Signal, Post}
 use Rattle.ws_steps.specs.declared.calls.HostCall.{HostCall}
 use Rattle.ws_steps.specs.declared.calls.HostCall.TheVariants.{Close, Flush}
+use Rattle.ws_steps.specs.Histories.{taken_event}
+use Rattle.ws_steps.specs.PortHistory.{posted_by, posted_in}
 use Rattle.ws_steps.specs.Promises.{next_job}
 use Rattle.ws_steps.specs.Run.{Entry, Called, Worked, Heard, run, step, after_call, after_job, after_event, first_event, jobs_in_a_row, performed_in}
 use Rattle.ws_steps.specs.Slots.{Slots, empty}
@@ -41,49 +40,39 @@ use Rattle.ws_chain_laws.proofs.Runs.{nodes-leave}
 use Rattle.ws_realm.specs.Seen.{SeenRealm, oldest}
 use Rattle.ws_realm.specs.declared.realm.Why.{Why}
 use Rattle.ws_realm.specs.declared.realm.Why.TheVariants.{Spent}
-use Rattle.ws_reason_laws.specs.Reasons.{failures, failure_of}
+use Rattle.ws_reason_laws.specs.Reasons.{failure_of}
+use Rattle.ws_node_laws.specs.Messages.{taken_events, message_by, delivered_to}
 use Rattle.ws_runner.specs.declared.node.Node.{Node}
 use Rattle.ws_runner.specs.declared.node.Output.TheVariants as output
+use Rattle.ws_runner.specs.Fair.{BringsFair, AllBringFair}
 use Rattle.ws_runner.specs.Moves.{Asks, Performed, Refused, Stops, Before, Wanting, IsSpent, IsAt, IsDoneBy, Works, with_realm, stopped_by}
-use Rattle.ws_runner.specs.Node.{in_bytes, coming_behind, coming, lies, lies_in}
-use Rattle.ws_runner.specs.Past.{IsCauseFault, IsCause, OneAtMost, ClosesFinished, FlushesFine, IsPull, Led}
-use Rattle.ws_runner.specs.Ran.{IsOwn, IsOwnEntry, HasRun, IsPiped}
+use Rattle.ws_runner.specs.Node.{feeds_edge, in_bytes, coming_behind, coming, lies, lies_in}
+use Rattle.ws_runner.specs.Past.{AreCaused, IsCause, OneAtMost, ClosesFinished, FlushesFine, IsPull, Led, EndsHave}
+use Rattle.ws_runner.specs.Ran.{IsOwn, IsOwnEntry, HasRun}
 use Rattle.ws_runner.proofs.Bytes.{short-behind, nothing-follows, short-ended, lost-short, lying-both, lying-since, one-short, one-before}
 use Rattle.ws_runner.proofs.Shut.{enqueue-shut, behind-mark}
-use Rattle.ws_runner.proofs.Entries.{failures-snoc, called-longer, pull-longer, MayClose, closes-snoc, MayFlush, flushes-snoc}
-use Rattle.ws_runner.proofs.Ran.{own-nodes, ran-longer, ran-same, piped-longer}
+use Rattle.ws_runner.proofs.Entries.{fair-append, called-longer, pull-longer, MayClose, closes-snoc, MayFlush, flushes-snoc}
+use Rattle.ws_runner.proofs.Quiet.{IsNoMessage, no-message, IsNoPost, no-post, taken-snoc, taken-none, delivered-snoc, delivered-none, posted-append, ends-same, ends-as}
+use Rattle.ws_runner.proofs.Ran.{own-nodes, ran-longer, ran-same}
+use Rattle.ws_runner.proofs.Reasons.{KeepsCauses, same-causes, causes-stay, causes-longer, MayFailBy}
+pub use Rattle.ws_runner.proofs.Reasons.{MayFail, AllHaveCauses, FromBelow}
 
 -- A node of which only the realm changed, and that may have stopped
 
-fault-stays : (n : Node) (realm : SeenRealm) (stopped : Option Why) (f : Fault) → IsCauseFault n f → IsCauseFault (record n { core = record n.core { realm = realm; stopped = stopped } }) f
-fault-stays n realm stopped fault.Read h = h
-fault-stays n realm stopped fault.TooMuch h = h
-fault-stays n realm stopped fault.Write h = h
-fault-stays n realm stopped (fault.Stage index code place) h = h
-fault-stays n realm stopped fault.Abort h = h
-fault-stays n realm stopped fault.TypeError h = h
-fault-stays n realm stopped fault.RangeError h = h
-fault-stays n realm stopped fault.DataClone h = h
-fault-stays n realm stopped (fault.User k) h = h
-fault-stays n realm stopped fault.NoMemory h = h
-
-cause-stays : (n : Node) (realm : SeenRealm) (stopped : Option Why) (r : Plain) → IsCause n r → IsCause (record n { core = record n.core { realm = realm; stopped = stopped } }) r
-cause-stays n realm stopped (plain.Fault f) h = fault-stays n realm stopped f h
-cause-stays n realm stopped plain.Undefined h = h
-cause-stays n realm stopped (plain.Number k) h = h
-cause-stays n realm stopped (plain.Pair t) h = h
-cause-stays n realm stopped (plain.Local k) h = h
+core-causes : (n : Node) (realm : SeenRealm) (stopped : Option Why) → KeepsCauses n (record n { core = record n.core { realm = realm; stopped = stopped } })
+core-causes n realm stopped = same-causes n (record n { core = record n.core { realm = realm; stopped = stopped } }) refl refl refl refl
 
 -- where its past may be longer too
-led-as : (shape : Shape) (past ys : List Entry) (n : Node) (realm : SeenRealm) (stopped : Option Why) → Led shape past n → HasRun shape ys realm.slots → IsPiped (count_in shape) ys n.core.pipe
-    → All (IsCause n) (failures ys) → ClosesFinished n.exit.sink ys n.exit.output → FlushesFine ys n.core.stages.items → IsPull ys n.entrance.asked
+led-as : (shape : Shape) (past ys : List Entry) (n : Node) (realm : SeenRealm) (stopped : Option Why) → Led shape past n → HasRun shape ys realm.slots → AllBringFair ys
+    → AreCaused shape ys n → ClosesFinished n.exit.sink ys n.exit.output → FlushesFine ys n.core.stages.items → IsPull ys n.entrance.asked
     → realm.slots.age ≤ oldest → (stopped ≡ Some Spent → realm.slots.age ≡ oldest) → Led shape ys (record n { core = record n.core { realm = realm; stopped = stopped } })
-led-as shape past ys n realm stopped s ran piped failed closes flushes asked young spent =
+led-as shape past ys n realm stopped s ran clones failed closes flushes asked young spent =
     record {
       is_of = record { fit = s.is_of.fit; from = s.is_of.from; into = s.is_of.into; stages = s.is_of.stages; source = s.is_of.source; sink = s.is_of.sink; most = s.is_of.most; signal = s.is_of.signal };
       ran = ran;
-      piped = piped;
-      failed = All-weaker (IsCause n) (IsCause (record n { core = record n.core { realm = realm; stopped = stopped } })) (cause-stays n realm stopped) (failures ys) failed;
+      piped = s.piped;
+      clones = clones;
+      failed = causes-stay shape ys n (record n { core = record n.core { realm = realm; stopped = stopped } }) (core-causes n realm stopped) failed;
       closes = closes;
       flushes = flushes;
       asked = asked;
@@ -97,18 +86,18 @@ led-as shape past ys n realm stopped s ran piped failed closes flushes asked you
 led-stays : (shape : Shape) (past : List Entry) (n : Node) (realm : SeenRealm) (stopped : Option Why) → Led shape past n → realm.slots ≡ n.core.realm.slots
     → (stopped ≡ Some Spent → n.core.realm.slots.age ≡ oldest) → Led shape past (record n { core = record n.core { realm = realm; stopped = stopped } })
 led-stays shape past n realm stopped s e spent =
-    led-as shape past past n realm stopped s (ran-same shape past n.core.realm.slots realm.slots s.ran e) s.piped s.failed s.closes s.flushes s.asked
+    led-as shape past past n realm stopped s (ran-same shape past n.core.realm.slots realm.slots s.ran e) s.clones s.failed s.closes s.flushes s.asked
     (subst (λ (q : Slots). q.age ≤ oldest) (sym e) s.age) (λ f. ap (λ (q : Slots). q.age) e ∙ spent f)
 
 -- and as the past is longer by one entry
-longer : (shape : Shape) (past : List Entry) (x : Entry) (n : Node) (realm : SeenRealm) → Led shape past n → realm.slots ≡ step n.core.realm.slots x → realm.slots.age ≤ oldest
-    → (n.core.stopped ≡ Some Spent → realm.slots.age ≡ oldest) → IsOwnEntry (count_in shape) x → All (IsCause n) (failures (x ∷ [])) → MayClose n.exit.sink past x n.exit.output
+pub longer : (shape : Shape) (past : List Entry) (x : Entry) (n : Node) (realm : SeenRealm) → Led shape past n → realm.slots ≡ step n.core.realm.slots x → realm.slots.age ≤ oldest
+    → (n.core.stopped ≡ Some Spent → realm.slots.age ≡ oldest) → IsOwnEntry (count_in shape) x → AllBringFair (x ∷ []) → MayFailBy shape n x → MayClose n.exit.sink past x n.exit.output
     → MayFlush past x n.core.stages.items → Led shape (past ++ x ∷ []) (with_realm realm n)
-longer shape past x n realm s is young spent own reasons closes flushes =
+longer shape past x n realm s is young spent own clones reasons closes flushes =
     led-as shape past (past ++ x ∷ []) n realm n.core.stopped s
     (ran-longer shape past x n.core.realm.slots realm.slots s.ran is own)
-    (piped-longer (count_in shape) past (x ∷ []) n.core.pipe s.piped)
-    (subst (All (IsCause n)) (sym (failures-snoc past x)) (All-append (IsCause n) (failures past) (failures (x ∷ [])) s.failed reasons))
+    (fair-append past (x ∷ []) s.clones clones)
+    (causes-longer shape past x n s.failed reasons)
     (closes-snoc n.exit.sink past x n.exit.output s.closes closes)
     (flushes-snoc past x n.core.stages.items s.flushes flushes)
     (pull-longer past (x ∷ []) n.entrance.asked s.asked)
@@ -120,14 +109,23 @@ pub record OnlyRealm (a b : Node) : Type 0 where
   pub stopped : Option Why
   pub is : b ≡ record a { core = record a.core { realm = realm; stopped = stopped } }
 
--- What a node may ask of its realm: calls of its own, with reasons that have their cause. It settles the close of the sink well only where the output was
+-- What a node may ask of its realm: calls of its own, which bring bytes and faults, with reasons that have their cause. It settles the close of the sink well only where the output was
 -- finished, and the flush of a stage only where that ended fine
 pub record MayAsk (shape : Shape) (past : List Entry) (n : Node) (c : Call) : Type 0 where
   pub is_own : IsOwn (count_in shape) c
-  pub failed : All (IsCause n) (failure_of c)
-  pub closes : (id : HostId) → c ≡ settles_well id → slice_get (called past) id.0 ≡ Some (Close n.exit.sink) → n.exit.output ≡ output.Finished
+  pub clones : BringsFair c
+  pub failed : MayFail shape n c
+  pub closes : (id : HostId) → c ≡ settles_well id → slice_get (called past) id.0 ≡ Some (Close n.exit.sink) → feeds_edge n.exit.output ≡ false → n.exit.output ≡ output.Finished
   pub flushes : (id : HostId) (i : StreamId) → c ≡ settles_well id → slice_get (called past) id.0 ≡ Some (Flush i)
       → (first last : List State) (w : State) → IsAt i n.core.stages.items first w last → w.work ≡ Over Fine
+
+pub own-failed : (shape : Shape) (n : Node) (c : Call) → All (IsCause n) (failure_of c) → MayFail shape n c
+own-failed shape n c h = AllHaveCauses h
+
+-- What a call delivers is delivered, unless the realm has stopped
+pub data Delivers (c : Call) (past more : List Entry) (stopped : Option Why) : Type 0 where
+  Delivered : ((port : PortId) → delivered_to port (past ++ more) ≡ delivered_to port past ++ message_by port c) → Delivers c past more stopped
+  Undelivered : stopped ≢ None → ((port : PortId) → delivered_to port (past ++ more) ≡ delivered_to port past) → Delivers c past more stopped
 
 -- After a call: what lies on each link is, or is short of, what lay there and then what the call brings, whatever comes behind
 pub record AfterCall (shape : Shape) (past : List Entry) (c : Call) (a b : Node) : Type 0 where
@@ -137,6 +135,10 @@ pub record AfterCall (shape : Shape) (past : List Entry) (c : Call) (a b : Node)
   pub short : (d : ℕ → Told (List ℕ)) (k : ℕ) → k ≤ count_in shape → IsShortOf (lies d b k) (lies (λ j. then_told (in_bytes (enters_in shape j c)) (d j)) a k)
   pub one : (m : ℕ) → OneAtMost m (then_told (behind_at 0 a.core.realm.slots) (enters_in shape 0 c)).items → OneAtMost m (behind_at 0 b.core.realm.slots).items
   pub older : b.core.stopped ≡ None → b.core.realm.slots.age ≡ suc a.core.realm.slots.age
+  -- the host heard of nothing meanwhile
+  pub taken : taken_events (past ++ more) empty ≡ taken_events past empty
+  pub delivered : Delivers c past more b.core.stopped
+  pub ends : IsNoMessage c → EndsHave shape past a → EndsHave shape (past ++ more) b
 
 -- a call
 
@@ -161,19 +163,32 @@ goes-spent n P goes e = absurd (cc)
 one_more : (n m : ℕ) → n ≡ m + 1 → n ≡ suc m
 one_more n m e = omega (arith, e)
 
+-- the ends where a call that delivers nothing was performed, and where it wasn't
+
+ends-called : (shape : Shape) (past : List Entry) (a : Node) (realm : SeenRealm) (c : Call) → IsNoMessage c → EndsHave shape past a → EndsHave shape (past ++ Called c ∷ []) (with_realm realm a)
+ends-called shape past a realm c none h =
+    ends-same shape past (past ++ Called c ∷ []) a (with_realm realm a) (λ port. ap (posted_in port) (taken-none past (Called c) empty refl))
+    (λ port. delivered-none port past (Called c) (append-nil (message_by port c) ∙ no-message port c none)) refl refl (λ e. e) h
+
+ends-refused : (shape : Shape) (past : List Entry) (a : Node) (why : Why) → EndsHave shape past a → EndsHave shape (past ++ []) (stopped_by why a)
+ends-refused shape past a why h =
+    subst (λ (es : List Entry). EndsHave shape es (stopped_by why a)) (sym (append-nil past)) (ends-as shape past a (stopped_by why a) refl refl (λ e. absurd (cc)) h)
+
 pub since-asks : (shape : Shape) (past : List Entry) (a b : Node) (c : Call) → Led shape past a → MayAsk shape past a c → Asks c a b → AfterCall shape past c a b
 since-asks shape past a b c led may (Performed realm slots young goes is) =
     subst (AfterCall shape past c a) (sym is)
     (record {
       more = Called c ∷ [];
-      led = longer shape past (Called c) a realm led slots (young led.age) (goes-spent a (realm.slots.age ≡ oldest) goes) may.is_own
-          (subst (All (IsCause a)) (sym (append-nil (failure_of c))) may.failed)
+      led = longer shape past (Called c) a realm led slots (young led.age) (goes-spent a (realm.slots.age ≡ oldest) goes) may.is_own (may.clones, tt) may.failed
           (λ id e. may.closes id (same_call c (settles_well id) e)) (λ id i e. may.flushes id i (same_call c (settles_well id) e));
       only = record { realm = realm; stopped = a.core.stopped; is = refl };
       short = λ d k l. lying-both a.core.stopped _ _
           (short-behind (behind_at k realm.slots) (behind_at k a.core.realm.slots) (enters_in shape k c) (d k) (call-short shape past a realm c led may.is_own slots k l));
       one = λ m o. one-short m _ _ (call-short shape past a realm c led may.is_own slots 0 (omega arith)) o;
       older = λ e. one_more realm.slots.age a.core.realm.slots.age (ap (λ (q : Slots). q.age) slots ∙ called-age c a.core.realm.slots);
+      taken = taken-none past (Called c) empty refl;
+      delivered = Delivered (λ port. delivered-snoc port past (Called c) ∙ ap (λ (ms : List Message). delivered_to port past ++ ms) (append-nil (message_by port c)));
+      ends = λ none h. ends-called shape past a realm c none h;
     })
 since-asks shape past a b c led may (Refused why stops is) =
     subst (AfterCall shape past c a) (sym is)
@@ -184,6 +199,9 @@ since-asks shape past a b c led may (Refused why stops is) =
       short = λ d k l. lost-short (lies (λ j. then_told (in_bytes (enters_in shape j c)) (d j)) a k);
       one = λ m o. one-before m (behind_at 0 a.core.realm.slots) (enters_in shape 0 c) o;
       older = λ e. absurd (cc);
+      taken = ap (λ (es : List Entry). taken_events es empty) (append-nil past);
+      delivered = Undelivered (λ e. cc) (λ port. ap (delivered_to port) (append-nil past));
+      ends = λ none h. ends-refused shape past a why h;
     })
 
 -- where a chunk isn't taken, whatever was to come behind it on that link is lost
@@ -213,6 +231,9 @@ pub record AfterJobs (shape : Shape) (past : List Entry) (a b : Node) : Type 0 w
   pub short : (k : ℕ) → k ≤ count_in shape → IsShortOf (lies_in b k) (lies_in a k)
   pub one : (m : ℕ) → OneAtMost m (behind_at 0 a.core.realm.slots).items → OneAtMost m (behind_at 0 b.core.realm.slots).items
   pub older : a.core.realm.slots.age ≤ b.core.realm.slots.age
+  pub taken : taken_events (past ++ more) empty ≡ taken_events past empty
+  pub delivered : (port : PortId) → delivered_to port (past ++ more) ≡ delivered_to port past
+  pub ends : EndsHave shape past a → EndsHave shape (past ++ more) b
 
 -- what comes behind a stage that ended fine is the end
 coming-fine : (k : ℕ) (ws : List State) → suc k ≤ length ws
@@ -279,6 +300,8 @@ record JobsGo (shape : Shape) (past : List Entry) (a : Node) (realm : SeenRealm)
   short : (k : ℕ) → k ≤ count_in shape
       → IsShortOf (then_told (in_bytes (behind_at k realm.slots)) (coming a k)) (then_told (in_bytes (behind_at k a.core.realm.slots)) (coming a k))
   one : (m : ℕ) → OneAtMost m (behind_at 0 a.core.realm.slots).items → OneAtMost m (behind_at 0 realm.slots).items
+  taken : taken_events (past ++ more) empty ≡ taken_events past empty
+  delivered : (port : PortId) → delivered_to port (past ++ more) ≡ delivered_to port past
 
 led-after : (shape : Shape) (past more : List Entry) (x : Entry) (n : Node) → Led shape ((past ++ x ∷ []) ++ more) n → Led shape (past ++ x ∷ more) n
 led-after shape past more x n = subst (λ q. Led shape q n) (append_assoc past (x ∷ []) more)
@@ -294,19 +317,23 @@ jobs-go zero shape past a realm goes led e young = record {
   short = λ k l. subst (λ q. IsShortOf (then_told (in_bytes (behind_at k q)) (coming a k)) (then_told (in_bytes (behind_at k a.core.realm.slots)) (coming a k))) (sym e)
       (short_refl _);
   one = λ m o. subst (λ q. OneAtMost m (behind_at 0 q).items) (sym e) o;
+  taken = ap (λ (es : List Entry). taken_events es empty) (append-nil past);
+  delivered = λ port. ap (delivered_to port) (append-nil past);
 }
 jobs-go (suc n) shape past a realm goes led e young =
     let mid : SeenRealm = record { slots = after_job a.core.realm.slots; prepared = a.core.realm.prepared } in
     let keeps = each_job_keeps_chain shape.origin shape.target (count_in shape) a.core.realm.slots led.ran.wired in
     let older : mid.slots.age ≤ realm.slots.age = run-older (jobs_in_a_row n) mid.slots realm.slots e in
     let first : Led shape (past ++ Worked ∷ []) (with_realm mid a) =
-    longer shape past Worked a mid led refl (omega (arith, older, young)) (goes-spent a (mid.slots.age ≡ oldest) goes) tt (All-nil (IsCause a)) (λ id f. cc) (λ id i f. cc) in
+    longer shape past Worked a mid led refl (omega (arith, older, young)) (goes-spent a (mid.slots.age ≡ oldest) goes) tt tt tt (λ id f. cc) (λ id i f. cc) in
     let rest = jobs-go n shape (past ++ Worked ∷ []) (with_realm mid a) realm goes first e young in
     record {
       more = Worked ∷ rest.more;
       led = led-after shape past rest.more Worked (with_realm realm a) rest.led;
       short = λ k l. short_trans _ _ _ (rest.short k l) (job-short shape past a led keeps k l);
       one = λ m o. rest.one m (one-short m (behind_at 0 mid.slots) (behind_at 0 a.core.realm.slots) (job-source shape past a led keeps) o);
+      taken = ap (λ (es : List Entry). taken_events es empty) (sym (append_assoc past (Worked ∷ []) rest.more)) ∙ (rest.taken ∙ taken-none past Worked empty refl);
+      delivered = λ port. ap (delivered_to port) (sym (append_assoc past (Worked ∷ []) rest.more)) ∙ (rest.delivered port ∙ delivered-none port past Worked refl);
     }
 
 works-by : (shape : Shape) (past : List Entry) (a b : Node) → Led shape past a → Works a b → (why : Option Why) → a.core.stopped ≡ why → AfterJobs shape past a b
@@ -319,6 +346,9 @@ works-by shape past a b led w (Some why) e =
       short = λ k l. short_refl (lies_in a k);
       one = λ m o. o;
       older = omega arith;
+      taken = ap (λ (es : List Entry). taken_events es empty) (append-nil past);
+      delivered = λ port. ap (delivered_to port) (append-nil past);
+      ends = λ h. subst (λ (es : List Entry). EndsHave shape es a) (sym (append-nil past)) h;
     })
 works-by shape past a b led w None e =
     let went = jobs-go w.jobs shape past a w.realm e led w.slots (w.young led.age) in
@@ -330,6 +360,10 @@ works-by shape past a b led w None e =
       short = λ k l. lying-since a.core.stopped w.stopped _ _ e (went.short k l);
       one = went.one;
       older = run-older (jobs_in_a_row w.jobs) a.core.realm.slots w.realm.slots w.slots;
+      taken = went.taken;
+      delivered = went.delivered;
+      ends = λ h. ends-same shape past (past ++ went.more) a (record a { core = record a.core { realm = w.realm; stopped = w.stopped } }) (λ port. ap (posted_in port) went.taken) went.delivered
+          refl refl (λ f. e) h;
     })
 
 pub since-works : (shape : Shape) (past : List Entry) (a b : Node) → Led shape past a → Works a b → AfterJobs shape past a b
@@ -341,12 +375,15 @@ pub record AfterEvent (shape : Shape) (past : List Entry) (a : Node) (realm : Se
   pub short : (k : ℕ) → k ≤ count_in shape → IsShortOf (then_told (hears_in shape k e) (behind_at k realm.slots)) (behind_at k a.core.realm.slots)
   pub its : IsItsCall (called (past ++ Heard ∷ [])) e
   pub age : realm.slots.age ≡ a.core.realm.slots.age
+  pub told : taken_events (past ++ Heard ∷ []) empty ≡ taken_events past empty ++ e ∷ []
+  pub delivered : (port : PortId) → delivered_to port (past ++ Heard ∷ []) ≡ delivered_to port past
+  pub ends : IsNoPost e → EndsHave shape past a → EndsHave shape (past ++ Heard ∷ []) (with_realm realm a)
 
 -- the past is longer by an event
 heard-led : (shape : Shape) (past : List Entry) (a : Node) (realm : SeenRealm) → Led shape past a → realm.slots ≡ after_event a.core.realm.slots → Led shape (past ++ Heard ∷ []) (with_realm realm a)
 heard-led shape past a realm led slots =
     let age : realm.slots.age ≡ a.core.realm.slots.age = ap (λ (q : Slots). q.age) slots in
-    longer shape past Heard a realm led slots (subst (λ q. q ≤ oldest) (sym age) led.age) (λ e. age ∙ led.spent e) tt (All-nil (IsCause a)) (λ id f. cc) (λ id i f. cc)
+    longer shape past Heard a realm led slots (subst (λ q. q ≤ oldest) (sym age) led.age) (λ e. age ∙ led.spent e) tt tt tt (λ id f. cc) (λ id i f. cc)
 
 heard-short : (shape : Shape) (past : List Entry) (a : Node) (realm : SeenRealm) (o : Option Event) → Led shape past a → first_event a.core.realm.slots.promises.events ≡ o
     → realm.slots ≡ after_event a.core.realm.slots → (k : ℕ) → k ≤ count_in shape
@@ -369,6 +406,41 @@ first-event : (calls : List HostCall) (es : List Event) (e : Event) → first_ev
 first-event calls [] e f a = absurd (cc)
 first-event calls (x ∷ es) e f a = subst (IsItsCall calls) (same_some x e f) a.0
 
+-- what the host hears of is the first event that waits
+
+first-taken : (es : List Event) (e : Event) → first_event es ≡ Some e → taken_event es ≡ e ∷ []
+first-taken [] e f = absurd (cc)
+first-taken (x ∷ es) e f = ap (λ (y : Event). y ∷ []) (same_some x e f)
+
+none-taken : (es : List Event) → first_event es ≡ None → taken_event es ≡ []
+none-taken [] f = refl
+none-taken (x ∷ es) f = absurd (cc)
+
+heard-told : (shape : Shape) (past : List Entry) (a : Node) (e : Event) → Led shape past a → first_event a.core.realm.slots.promises.events ≡ Some e
+    → taken_events (past ++ Heard ∷ []) empty ≡ taken_events past empty ++ e ∷ []
+heard-told shape past a e led first =
+    taken-snoc past Heard empty
+    ∙ ap (λ (es : List Event). taken_events past empty ++ es)
+    (ap (λ (q : Slots). taken_event q.promises.events) (sym led.ran.slots) ∙ first-taken a.core.realm.slots.promises.events e first)
+
+heard-none : (shape : Shape) (past : List Entry) (a : Node) → Led shape past a → first_event a.core.realm.slots.promises.events ≡ None
+    → taken_events (past ++ Heard ∷ []) empty ≡ taken_events past empty
+heard-none shape past a led first =
+    taken-none past Heard empty (ap (λ (q : Slots). taken_event q.promises.events) (sym led.ran.slots) ∙ none-taken a.core.realm.slots.promises.events first)
+
+told-none : (port : PortId) (past : List Entry) (e : Event) → IsNoPost e → taken_events (past ++ Heard ∷ []) empty ≡ taken_events past empty ++ e ∷ []
+    → posted_in port (taken_events (past ++ Heard ∷ []) empty) ≡ posted_in port (taken_events past empty)
+told-none port past e none told =
+    ap (posted_in port) told
+    ∙ (posted-append port (taken_events past empty) (e ∷ [])
+    ∙ (ap (λ (ms : List Message). posted_in port (taken_events past empty) ++ ms) (append-nil (posted_by port e) ∙ no-post port e none) ∙ append-nil (posted_in port (taken_events past empty))))
+
+ends-heard : (shape : Shape) (past : List Entry) (a : Node) (realm : SeenRealm)
+    → ((port : PortId) → posted_in port (taken_events (past ++ Heard ∷ []) empty) ≡ posted_in port (taken_events past empty))
+    → EndsHave shape past a → EndsHave shape (past ++ Heard ∷ []) (with_realm realm a)
+ends-heard shape past a realm same h =
+    ends-same shape past (past ++ Heard ∷ []) a (with_realm realm a) same (λ port. delivered-none port past Heard refl) refl refl (λ e. e) h
+
 pub since-hears : (shape : Shape) (past : List Entry) (a : Node) (realm : SeenRealm) (e : Event) → Led shape past a → a.core.stopped ≡ None → first_event a.core.realm.slots.promises.events ≡ Some e
     → realm.slots ≡ after_event a.core.realm.slots → AfterEvent shape past a realm e
 since-hears shape past a realm e led goes first slots =
@@ -378,6 +450,9 @@ since-hears shape past a realm e led goes first slots =
       its = call-longer past (Heard ∷ []) e (first-event (called past) a.core.realm.slots.promises.events e first
           (subst (λ (q : Slots). AllEvents (IsItsCall (called past)) q.promises.events) (sym led.ran.slots) (each_event_is_its_call past).untaken));
       age = ap (λ (q : Slots). q.age) slots;
+      told = heard-told shape past a e led first;
+      delivered = λ port. delivered-none port past Heard refl;
+      ends = λ none h. ends-heard shape past a realm (λ port. told-none port past e none (heard-told shape past a e led first)) h;
     }
 
 -- where there is no event
@@ -385,8 +460,14 @@ pub record AfterNone (shape : Shape) (past : List Entry) (a : Node) (realm : See
   pub led : Led shape (past ++ Heard ∷ []) (with_realm realm a)
   pub short : (k : ℕ) → k ≤ count_in shape → IsShortOf (behind_at k realm.slots) (behind_at k a.core.realm.slots)
   pub age : realm.slots.age ≡ a.core.realm.slots.age
+  pub ends : EndsHave shape past a → EndsHave shape (past ++ Heard ∷ []) (with_realm realm a)
 
 pub since-hears-none : (shape : Shape) (past : List Entry) (a : Node) (realm : SeenRealm) → Led shape past a → first_event a.core.realm.slots.promises.events ≡ None
     → realm.slots ≡ after_event a.core.realm.slots → AfterNone shape past a realm
 since-hears-none shape past a realm led first slots =
-    record { led = heard-led shape past a realm led slots; short = heard-short shape past a realm None led first slots; age = ap (λ (q : Slots). q.age) slots }
+    record {
+      led = heard-led shape past a realm led slots;
+      short = heard-short shape past a realm None led first slots;
+      age = ap (λ (q : Slots). q.age) slots;
+      ends = λ h. ends-heard shape past a realm (λ port. ap (posted_in port) (heard-none shape past a led first)) h;
+    }

@@ -1,19 +1,17 @@
 -- What lies before the sink goes out, and the node goes on so.
-use Rattle.std.proofs.Common.{◌≡◌, ◌≢◌, ◌+◌, ◌<◌, ◌≤◌, ◌^◌, ◌==◌, ℕ, zero, suc, Bool, false, List, [], ◌∷◌, ◌++◌, length, Option, Some, None, refl, sym, ap, ◌∙◌, subst, arith}
-use Rattle.std.specs.List.{All}
+use Rattle.std.proofs.Common.{◌≡◌, ◌≢◌, ◌+◌, ◌<◌, ◌≤◌, ◌==◌, ℕ, zero, suc, Bool, true, false, List, [], ◌∷◌, ◌++◌, length, Option, Some, None, refl, sym, ap, ◌∙◌, subst, arith}
 use Rattle.std.specs.Prelude.{option_map}
 use Rattle.std.proofs.lemmas.List.{length-map}
-use Rattle.std.proofs.lemmas.List.Elements.{All-nil, All-head, All-tail}
+use Rattle.std.proofs.lemmas.List.Elements.{All-nil}
 use Rattle.ws_value.specs.declared.ids.HostId.{HostId}
 use Rattle.ws_value.specs.declared.value.Value.{Value}
 use Rattle.ws_runner.specs.Shape.{Shape, count_in, hears_in}
 use Rattle.ws_flow.specs.Parts.{AtWork, Goes}
 use Rattle.ws_flow.specs.Steps.{parts_at, behind_of}
 use Rattle.ws_flow.specs.Stages.{machines}
-use Rattle.ws_flow.specs.Told.{bytes_of, Mark, Open as MayCome, Told, told, then_told, IsShortOf}
-use Rattle.ws_flow.proofs.Lying.{lying_short}
-use Rattle.ws_flow.proofs.Steps.{behind_at as behind_is, goes_out}
-use Rattle.ws_flow.proofs.Told.{short_trans, short_left, before_front, before_of_short}
+use Rattle.ws_flow.specs.Told.{bytes_of, Mark, Told, told, then_told, IsShortOf}
+use Rattle.ws_flow.proofs.Steps.{goes_out}
+use Rattle.ws_flow.proofs.Told.{short_trans, short_left}
 use Rattle.ws_io.specs.Feed.{Feed, KeepsEnd}
 use Rattle.ws_io.specs.Gain.{Gains, KeepsTold}
 use Rattle.ws_io.specs.Moment.{Moment}
@@ -22,25 +20,29 @@ use Rattle.ws_stages.specs.State.{State}
 use Rattle.ws_steps.specs.declared.calls.Event.TheVariants.{Host}
 use Rattle.ws_steps.specs.declared.calls.HostCall.{HostCall}
 use Rattle.ws_steps.specs.Run.{Entry, Heard}
-use Rattle.ws_chain_laws.specs.Chain.{behind_at}
+use Rattle.ws_chain_laws.specs.Chain.{Target, ToSink, ToPort, behind_at}
 use Rattle.ws_chain_laws.specs.Nodes.{only_at}
 use Rattle.ws_realm.specs.Seen.{SeenRealm}
 use Rattle.ws_runner.specs.declared.node.Abort.{Abort}
+use Rattle.ws_runner.specs.declared.node.Entrance.{Entrance}
+use Rattle.ws_runner.specs.declared.node.Exit.{Exit}
 use Rattle.ws_runner.specs.declared.node.Input.{Input}
 use Rattle.ws_runner.specs.declared.node.Input.TheVariants as input
 use Rattle.ws_runner.specs.declared.node.Node.{Node}
 use Rattle.ws_runner.specs.declared.node.Output.{Output}
 use Rattle.ws_runner.specs.declared.node.Output.TheVariants as output
 use Rattle.ws_runner.specs.Moves.{with_realm, Shown, shut, nearer, written}
-use Rattle.ws_runner.specs.Node.{coming, in_bytes, is_reached, lies_in, lying, nothing_yet, parts, stages_in, works_in}
-use Rattle.ws_runner.specs.Past.{OneAtMost, ArePushed, HasOne, Since}
-use Rattle.ws_runner.specs.Went.{AbortGoes, StopsAt, OutputGoes, InputGoes}
-use Rattle.ws_runner.proofs.Going.{going-acts}
+use Rattle.ws_runner.specs.Node.{coming, feeds_edge, in_bytes, is_edge, is_reached, lies_in, lying, nothing_yet, parts, stages_in, works_in}
+use Rattle.ws_runner.specs.Past.{FeedsAs, OneAtMost, ArePushed, HasOne, Since}
+use Rattle.ws_runner.specs.Went.{AbortGoes, ByEdge, ByInput, ComesIn, EdgeGoes, InputGoes, OutputGoes, ToOutput}
+use Rattle.ws_joined_laws.specs.Ends.{StopsIn}
+use Rattle.ws_runner.proofs.Going.{ends-same, going-acts, out-goes}
 use Rattle.ws_runner.proofs.Handled.{Handled, shows}
 use Rattle.ws_runner.proofs.Staged.{same-length}
 use Rattle.ws_runner.proofs.Handing.{lies_to, heard-lies, unheard-lies, one-quiet}
 use Rattle.ws_runner.proofs.Ones.{all-more, one-behind}
 use Rattle.ws_runner.proofs.Putting.{AfterQuiet}
+use Rattle.ws_runner.proofs.Quiet.{ends-as}
 use Rattle.ws_runner.proofs.Since.{AfterEvent}
 use Rattle.ws_runner.proofs.Unheard.{at-there, at-elsewhere}
 
@@ -54,35 +56,92 @@ pub keeps-told : (f : Option Bool) → KeepsTold f f
 keeps-told None = tt
 keeps-told (Some f) = refl
 
-pub input-calm : (i : Input) (rf : ℕ) (feed : Option Feed) (old new : Shown) → InputGoes i i nothing_yet (shows rf feed old) (shows rf feed new)
-input-calm input.Open rf feed old new = (refl, refl, keeps-end feed)
-input-calm input.Ended rf feed old new = (refl, refl, refl, refl)
-input-calm input.Failed rf feed old new = (refl, refl, refl, refl)
-input-calm input.TooLong rf feed old new = (refl, refl, refl, refl)
+input-calm : (i : Input) (rf : ℕ) (feed : Option Feed) (old new : Shown) → is_edge i ≡ false → InputGoes i i nothing_yet (shows rf feed old) (shows rf feed new)
+input-calm input.Open rf feed old new e = (refl, refl, keeps-end feed)
+input-calm input.Ended rf feed old new e = (refl, refl, refl, refl)
+input-calm input.Failed rf feed old new e = (refl, refl, refl, refl)
+input-calm input.TooLong rf feed old new e = (refl, refl, refl, refl)
+input-calm input.Edge rf feed old new e = absurd (cc)
+input-calm (input.Broken r) rf feed old new e = absurd (cc)
 
-pub output-alone : (o : Output) (gain : List ℕ) (m : Mark) (old : Moment) → o ≢ output.Open → gain ≡ [] → OutputGoes o o gain m old old
-output-alone output.Open gain m old h e = absurd (h refl)
-output-alone output.Finished gain m old h e = (refl, record { none = e; calm = refl; finished = refl })
-output-alone output.Failed gain m old h e = (refl, record { none = e; calm = refl; finished = refl })
-output-alone output.Aborted gain m old h e = (refl, record { none = e; calm = refl; finished = refl })
+edge-calm : (i : Input) → is_edge i ≡ true → EdgeGoes i i []
+edge-calm input.Edge e = refl
+edge-calm (input.Broken r) e = refl
+edge-calm input.Open e = absurd (cc)
+edge-calm input.Ended e = absurd (cc)
+edge-calm input.Failed e = absurd (cc)
+edge-calm input.TooLong e = absurd (cc)
+
+-- nothing comes in
+pub comes-calmly : (a b : Entrance) (rf : ℕ) (feed : Option Feed) (old new : Shown) → b.taken ≡ a.taken → b.input ≡ a.input → b.source ≡ a.source → b.most ≡ a.most → b.above ≡ a.above
+    → ComesIn a b (shows rf feed old) (shows rf feed new) nothing_yet
+comes-calmly a b rf feed old new taken same source most above = by (is_edge a.input) refl where
+  by : (t : Bool) → is_edge a.input ≡ t → ComesIn a b (shows rf feed old) (shows rf feed new) nothing_yet
+  by false e =
+      ByInput e
+      (record {
+        fed = Fed-nothing feed;
+        short = All-nil (λ c. length c ≤ 4096);
+        counted = omega arith;
+        input = subst (λ (i : Input). InputGoes a.input i nothing_yet (shows rf feed old) (shows rf feed new)) (sym same) (input-calm a.input rf feed old new e);
+        source = source;
+        most = most;
+        above = above;
+      })
+  by true e =
+      ByEdge e
+      (record {
+        taken = [];
+        posted = [];
+        end = ends-same a.above b.above above;
+        came_is = refl;
+        short = All-nil (λ c. length c < 33554432);
+        goes = subst (λ (i : Input). EdgeGoes a.input i []) (sym same) (edge-calm a.input e);
+        unread = (refl, refl);
+        counted = taken;
+        source = source;
+        most = most;
+      })
+
+-- what feeds the output has no edge below
+pub to-sink : (t : Target) (x : Exit) → FeedsAs t x → feeds_edge x.output ≡ false → (t ≡ ToSink) × (x.below ≡ None)
+to-sink ToSink x h not_edge = (refl, h.1)
+to-sink ToPort x h not_edge = absurd (let f = h.0 in cc)
+
+pub output-alone : (o : Output) (gain : List ℕ) (m : Mark) (old : Moment) → feeds_edge o ≡ false → o ≢ output.Open → gain ≡ [] → OutputGoes o o gain m old old
+output-alone output.Open gain m old not_edge h e = absurd (h refl)
+output-alone output.Finished gain m old not_edge h e = (refl, record { none = e; calm = refl; finished = refl })
+output-alone output.Failed gain m old not_edge h e = (refl, record { none = e; calm = refl; finished = refl })
+output-alone output.Aborted gain m old not_edge h e = (refl, record { none = e; calm = refl; finished = refl })
+output-alone output.Edge gain m old not_edge h e = absurd (cc)
 
 pub shut-stays : (o : Output) → o ≢ output.Open → shut o ≡ o
 shut-stays output.Open h = absurd (h refl)
 shut-stays output.Finished h = refl
 shut-stays output.Failed h = refl
 shut-stays output.Aborted h = refl
+shut-stays output.Edge h = refl
 
 pub shut-shut : (o : Output) → shut o ≢ output.Open
 shut-shut output.Open h = cc
 shut-shut output.Finished h = cc
 shut-shut output.Failed h = cc
 shut-shut output.Aborted h = cc
+shut-shut output.Edge h = cc
 
 pub open-fails : (o : Output) → o ≡ output.Open → shut o ≡ output.Failed
 open-fails output.Open e = refl
 open-fails output.Finished e = absurd (cc)
 open-fails output.Failed e = absurd (cc)
 open-fails output.Aborted e = absurd (cc)
+open-fails output.Edge e = absurd (cc)
+
+pub shut-kind : (o : Output) → feeds_edge o ≡ false → feeds_edge (shut o) ≡ false
+shut-kind output.Open e = refl
+shut-kind output.Finished e = refl
+shut-kind output.Failed e = refl
+shut-kind output.Aborted e = refl
+shut-kind output.Edge e = absurd (cc)
 
 -- of an abort
 
@@ -98,39 +157,32 @@ abort-same None chunks o = tt
 abort-same (Some x) chunks o = (refl, record { counted = omega arith; exact = λ h k. omega arith; last = λ h. absurd (omega arith) })
 
 -- it holds the last byte of what was gained
-stops-here : (left : ℕ) (piece gain : List ℕ) → 0 < left → length piece < 2 ^ 25 → length gain ≤ length piece → 0 < length gain → StopsAt left (piece ∷ []) gain
-stops-here left piece gain near short less some =
-    record { before = []; chunk = piece; after = []; split = refl; from = some; to = omega arith; fewer = near; short = short }
+stops-here : (left : ℕ) (piece gain : List ℕ) → 0 < left → length gain ≤ length piece → 0 < length gain → StopsIn left (piece ∷ []) gain
+stops-here left piece gain near less some =
+    record { before = []; chunk = piece; after = []; split = refl; from = some; to = omega arith; fewer = near }
 
 -- some was, and then a write failed
-pub abort-less : (x : Option Abort) (piece gain : List ℕ) (o : Output) → o ≡ output.Failed → is_reached x ≡ false → length piece < 2 ^ 25 → length gain ≤ length piece
+pub abort-less : (x : Option Abort) (piece gain : List ℕ) (o : Output) → o ≡ output.Failed → is_reached x ≡ false → length gain ≤ length piece
     → AbortGoes x x (piece ∷ []) gain o
-abort-less None piece gain o f e short less = tt
-abort-less (Some x) piece gain o f e short less =
-    (refl, record { counted = omega arith; exact = λ h k. absurd (h f); last = stops-here x.left piece gain (not_reached x e) short less })
+abort-less None piece gain o f e less = tt
+abort-less (Some x) piece gain o f e less =
+    (refl, record { counted = omega arith; exact = λ h k. absurd (h f); last = stops-here x.left piece gain (not_reached x e) less })
 
 abbrev pub nearer_by : ℕ → Option Abort → Option Abort
 nearer_by count None = None
 nearer_by count (Some x) = Some (nearer count x)
 
-pub abort-nearer : (x : Option Abort) (piece : List ℕ) (o : Output) → is_reached x ≡ false → length piece < 2 ^ 25 → AbortGoes x (nearer_by (length piece) x) (piece ∷ []) piece o
-abort-nearer None piece o e l = tt
-abort-nearer (Some x) piece o e l =
+pub abort-nearer : (x : Option Abort) (piece : List ℕ) (o : Output) → is_reached x ≡ false → AbortGoes x (nearer_by (length piece) x) (piece ∷ []) piece o
+abort-nearer None piece o e = tt
+abort-nearer (Some x) piece o e =
     let near = not_reached x e in
-    (refl, record { counted = omega arith; exact = λ h k. omega arith; last = stops-here x.left piece piece near l (omega arith) })
+    (refl, record { counted = omega arith; exact = λ h k. omega arith; last = stops-here x.left piece piece near (omega arith) })
 
 pub signal-same : (count : ℕ) (x : Option Abort) → option_map (λ (a : Abort). a.signal) (nearer_by count x) ≡ option_map (λ (a : Abort). a.signal) x
 signal-same count None = refl
 signal-same count (Some x) = refl
 
--- bytes that were written first of what lies in a node
-
-all-last : {A : Type 0} (P : A → Type 0) (xs ys : List A) → All P (xs ++ ys) → All P ys
-all-last P [] ys h = h
-all-last P (x ∷ xs) ys h = all-last P xs ys (All-tail P x (xs ++ ys) h)
-
-then_items : (x y : Told (List ℕ)) → x.mark ≡ MayCome → (then_told x y).items ≡ x.items ++ y.items
-then_items x y e = grind arith
+-- what is written of what lies in a node
 
 module _ (shape : Shape) (past : List Entry) (a : Node) (realm : SeenRealm) (since : Since shape past a) (goes : a.core.stopped ≡ None) where
   abbrev was : Node
@@ -145,21 +197,6 @@ module _ (shape : Shape) (past : List Entry) (a : Node) (realm : SeenRealm) (sin
 
   -- the link that goes to the sink is the last
   module _ (sink_link : ℕ) (is_last : sink_link ≡ count_in shape) where
-    lying-is : lying a ≡ lies_in a sink_link
-    lying-is = behind_is 0 (works_in a.core) (lies_in a) ∙ ap (lies_in a) (count-works ∙ sym is_last)
-
-    -- the chunk that lies first before the sink is below 2^25 bytes
-    pub piece-short : (piece : List ℕ) (y : Told (List ℕ)) → a.exit.output ≡ output.Open → IsShortOf (then_told (told (piece ∷ []) MayCome) y) (lies_in a sink_link) → length piece < 2 ^ 25
-    piece-short piece y is short =
-        let fit = since.led.is_of.fit in
-        let fed = since.fed in
-        let all = (lying_short shape.stages fed.came (parts a) (then_told fed.went (lying a)) fit.range fit.hex fit.few fed.short fed.flows).1 in
-        let first = before_front (then_told (told (piece ∷ []) MayCome) y) (lies_in a sink_link) (before_of_short _ _ short) in
-        let P : List ℕ → Type 0 = λ c. length c < 33554432 in
-        let items : (then_told fed.went (lying a)).items ≡ fed.went.items ++ (piece ∷ (y.items ++ first.0)) =
-        then_items fed.went (lying a) (fed.goes_on is) ∙ (ap (λ (z : Told (List ℕ)). fed.went.items ++ z.items) lying-is ∙ ap (λ (z : List (List ℕ)). fed.went.items ++ z) first.1) in
-        All-head P piece (y.items ++ first.0) (all-last P fed.went.items (piece ∷ (y.items ++ first.0)) (subst (All P) items all))
-
     module _ (id : HostId) (call : HostCall) (t : Told Value) (event : AfterEvent shape past a realm (Host id call))
         (heard : (k : ℕ) → k ≤ count_in shape → hears_in shape k (Host id call) ≡ only_at sink_link t k) where
       pub heard-out : (x : Told (List ℕ)) → IsShortOf (then_told (in_bytes t) (lies_to x was sink_link)) (lies_to x a sink_link)
@@ -173,11 +210,11 @@ module _ (shape : Shape) (past : List Entry) (a : Node) (realm : SeenRealm) (sin
           unheard-lies shape past a realm (Host id call) event goes x k (omega arith) (ap in_bytes (heard k (omega arith) ∙ at-elsewhere sink_link k t (λ e. omega arith)))
 
       -- where there are stages, the first link isn't the last
-      pub one-stages : (b : Node) (u : State) (us : List State) → a.core.stages.items ≡ u ∷ us → b.core.stages.items ≡ u ∷ us → b.entrance.ahead ≡ a.entrance.ahead
+      pub one-stages : (b : Node) (u : State) (us : List State) → a.core.stages.items ≡ u ∷ us → b.core.stages.items ≡ u ∷ us → b.entrance.ahead ≡ a.entrance.ahead → b.entrance.input ≡ a.entrance.input
           → ((n : ℕ) → OneAtMost n (behind_at 0 realm.slots).items → OneAtMost n (behind_at 0 b.core.realm.slots).items) → HasOne b
-      one-stages b u us whole is ahead less =
+      one-stages b u us whole is ahead input less =
           let some : 0 ≢ sink_link = λ e. let f = count-works in let g = length-map a.core.stages.items (λ (w : State). w.work) in let h : length a.core.stages.items ≡ suc (length us) = ap length whole in omega arith in
-          one-behind u us us a b since.one whole is ahead
+          one-behind u us us a b since.one whole is ahead input
           (λ n o. less n (one-quiet n (hears_in shape 0 (Host id call)) (behind_at 0 realm.slots) (behind_at 0 a.core.realm.slots)
           (heard 0 (omega arith) ∙ at-elsewhere sink_link 0 t some) (event.short 0 (omega arith)) o))
 
@@ -207,10 +244,12 @@ module _ (shape : Shape) (past : List Entry) (a : Node) (realm : SeenRealm) (sin
             (goes_out (machines (stages_in a.core)) 0 (works_in a.core) (lies_in a) (lies_in b) went (same-length a.core.stages.items)
             (λ j p less. lies-before j (let e = count-works in omega arith)) last)
 
-        pub sunk : (rf : ℕ) (feed : Option Feed) (old new : Shown) (p q : List ℕ → Type 0) (gain : List ℕ) (out : Mark) → Gains p q gain → IsShortOf (told gain out) (bytes_of went)
+        pub sunk : feeds_edge a.exit.output ≡ false → (rf : ℕ) (feed : Option Feed) (old new : Shown) (p q : List ℕ → Type 0) (gain : List ℕ) (out : Mark) → Gains p q gain → IsShortOf (told gain out) (bytes_of went)
             → (a.core.stages.items ≡ [] → a.entrance.ahead ≤ length gain + k) → OutputGoes a.exit.output o gain out (shows rf feed old) (shows rf feed new) → AbortGoes a.exit.abort x went.items gain o → HasOne b
             → Handled shape a b (shows rf feed old) (shows rf feed new) p q
-        sunk rf feed old new p q gain out gained written ahead out_goes abort one =
+        sunk not_edge rf feed old new p q gain out gained written ahead out_goes abort one =
+            let none : a.exit.below ≡ None = (to-sink shape.target a.exit since.led.is_of.into not_edge).1 in
+            let below : b.exit.below ≡ a.exit.below = ap (λ (n : Node). n.exit.below) b-is in
             let taken : b.entrance.taken ≡ a.entrance.taken = ap (λ (n : Node). n.entrance.taken) b-is in
             let k_is : b.entrance.ahead ≡ k = ap (λ (n : Node). n.entrance.ahead) b-is in
             let x_is : b.exit.abort ≡ x = ap (λ (n : Node). n.exit.abort) b-is in
@@ -224,32 +263,35 @@ module _ (shape : Shape) (past : List Entry) (a : Node) (realm : SeenRealm) (sin
                   let g = event.age in
                   subst (ArePushed b.core.realm.slots.age) (sym (ap (λ (n : Node). n.core.stages.items) b-is)) (all-more a.core.realm.slots.age b.core.realm.slots.age a.core.stages.items (omega arith) (since.pushes goes));
               one = one;
+              ends = after.ends (ends-as shape (past ++ Heard ∷ []) was (record was { entrance = record was.entrance { ahead = k }; exit = record was.exit { abort = x; output = o } }) refl refl (λ e. e) (event.ends tt since.ends));
               went = record {
                 read = nothing_yet;
                 went = went;
                 gain = gain;
                 out = out;
                 core = record {
-                  moves = (record { stages = ap (λ (q : Node). stages_in q.core) b-is; goes = goes-out }, tt);
+                  moves = (
+                    record {
+                      stages = ap (λ (q : Node). stages_in q.core) b-is;
+                      goes = out-goes a b went none (below ∙ none) goes-out;
+                    },
+                    tt,
+                  );
                   pipe = ap (λ (n : Node). n.core.pipe) b-is;
                   pipes = ap (λ (n : Node). n.core.pipes_before) b-is;
+                  first = ap (λ (n : Node). n.core.first) b-is;
                 };
-                from = record {
-                  fed = Fed-nothing feed;
-                  short = All-nil (λ c. length c ≤ 4096);
-                  counted = omega arith;
-                  input = subst (λ (i : Input). InputGoes a.entrance.input i nothing_yet (shows rf feed old) (shows rf feed new)) (sym i_is) (input-calm a.entrance.input rf feed old new);
-                  source = ap (λ (n : Node). n.entrance.source) b-is;
-                  most = ap (λ (n : Node). n.entrance.most) b-is;
-                };
-                into = record {
-                  gained = gained;
-                  written = written;
-                  output = subst (λ (z : Output). OutputGoes a.exit.output z gain out (shows rf feed old) (shows rf feed new)) (sym o_is) out_goes;
-                  abort = subst (λ (z : Option Abort). AbortGoes a.exit.abort z went.items gain b.exit.output) (sym x_is) (subst (λ (z : Output). AbortGoes a.exit.abort x went.items gain z) (sym o_is) abort);
-                  sink = ap (λ (n : Node). n.exit.sink) b-is;
-                };
-                ahead = λ none. let f = ahead none in omega arith;
+                from = comes-calmly a.entrance b.entrance rf feed old new taken i_is (ap (λ (n : Node). n.entrance.source) b-is) (ap (λ (n : Node). n.entrance.most) b-is) (ap (λ (n : Node). n.entrance.above) b-is);
+                into = ToOutput not_edge
+                    (record {
+                      gained = gained;
+                      written = written;
+                      output = subst (λ (z : Output). OutputGoes a.exit.output z gain out (shows rf feed old) (shows rf feed new)) (sym o_is) out_goes;
+                      abort = subst (λ (z : Option Abort). AbortGoes a.exit.abort z went.items gain b.exit.output) (sym x_is) (subst (λ (z : Output). AbortGoes a.exit.abort x went.items gain z) (sym o_is) abort);
+                      sink = ap (λ (n : Node). n.exit.sink) b-is;
+                      below = below;
+                    });
+                ahead = λ none by to. let f = ahead none in omega arith;
                 stays = going-acts a b (shows rf feed old) (shows rf feed new) nothing_yet gain goes;
               };
             }

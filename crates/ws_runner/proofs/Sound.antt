@@ -1,30 +1,26 @@
 -- A node of which nothing failed (`each_sound_node_is_whole`).
-use Rattle.std.proofs.Common.{◌≡◌, ◌≢◌, ℕ, zero, suc, ◌+◌, ◌≤◌, List, [], ◌∷◌, length, map, Option, None, refl, sym, ap, subst, ◌∙◌, arith}
-use Rattle.ws_value.specs.declared.value.Value.{Value}
-use Rattle.ws_flow.specs.declared.plan.Ending.{Ending}
+use Rattle.std.proofs.Common.{◌≡◌, ◌≢◌, ℕ, zero, suc, ◌+◌, ◌≤◌, List, [], ◌∷◌, length, map, Option, refl, sym, ap, subst, ◌∙◌, arith}
 use Rattle.ws_flow.specs.declared.plan.Ending.TheVariants.{Fine, Bad}
 use Rattle.ws_flow.specs.declared.plan.Plan.{Plan}
-use Rattle.ws_flow.specs.Parts.{AtWork, Live, Over, Part, nothing_told, residual}
+use Rattle.ws_flow.specs.Parts.{AtWork, Live, Over, nothing_told, residual}
 use Rattle.ws_flow.specs.Plans.{stages_of}
 use Rattle.ws_flow.specs.Stages.{machines}
-use Rattle.ws_flow.specs.Steps.{behind_of, before_work, coming_end, coming_from, parts_at}
-use Rattle.ws_flow.specs.Told.{bytes_of, Mark, Open as MayCome, Closed, Broken, Lost, Told, told, then_told, CutShort, IsShortOf}
+use Rattle.ws_flow.specs.Steps.{before_work, coming_from, parts_at}
+use Rattle.ws_flow.specs.Told.{bytes_of, Mark, Open as MayCome, Closed, Broken, Lost, Told, then_told, CutShort}
 use Rattle.ws_flow.proofs.Steps.{behind_at as behind_is}
 use Rattle.ws_flow.proofs.Unlost.{AreWhole, LiesWhole, still-unlost, then-unlost}
 use Rattle.ws_io.specs.Moment.{Moment}
 use Rattle.ws_stages.specs.State.{State}
-use Rattle.ws_steps.specs.Slots.{Slots}
 use Rattle.ws_chain_laws.specs.Chain.{source_of, dest_of, link_of, behind_at}
 use Rattle.ws_chain_laws.specs.Sound.{IsSound}
 use Rattle.ws_chain_laws.proofs.Links.{link-at}
 use Rattle.ws_chain_laws.proofs.Sound.{each_sound_link_is_whole}
 use Rattle.ws_realm.specs.declared.realm.Why.{Why}
-use Rattle.ws_runner.specs.declared.node.Input.{Input}
 use Rattle.ws_runner.specs.declared.node.Node.{Node}
 use Rattle.ws_runner.specs.declared.node.Output.{Output}
 use Rattle.ws_runner.specs.declared.node.Output.TheVariants as output
 use Rattle.ws_runner.specs.Flow.{HasGone}
-use Rattle.ws_runner.specs.Node.{chunks_in, coming, coming_behind, in_bytes, lies_in, lost_by, lying, lying_by, nothing_yet, parts, stages_in, works_in}
+use Rattle.ws_runner.specs.Node.{coming, coming_behind, in_bytes, lies_in, lying, lying_by, parts, works_in}
 use Rattle.ws_runner.specs.Past.{Driven}
 use Rattle.ws_runner.specs.Shape.{count_in}
 use Rattle.ws_runner.specs.Sound.{IsSoundNode, EachSoundNodeIsWhole}
@@ -60,6 +56,8 @@ out-unlost output.Open output.Aborted gain out m₀ m₁ e f g h = absurd (g ref
 out-unlost output.Finished b gain out m₀ m₁ e f g h = absurd (cc)
 out-unlost output.Failed b gain out m₀ m₁ e f g h = absurd (cc)
 out-unlost output.Aborted b gain out m₀ m₁ e f g h = absurd (cc)
+out-unlost output.Edge b gain out m₀ m₁ e f g h = absurd (cc)
+out-unlost output.Open output.Edge gain out m₀ m₁ e f g h = absurd h
 
 module _ (n : Node) (driven : Driven n) (sound : IsSoundNode n) where
   abbrev count : ℕ

@@ -27,7 +27,7 @@ one-stays : (a b : Node) → OnlyRealm a b
     → ((m : ℕ) → OneAtMost m (behind_at 0 a.core.realm.slots).items → OneAtMost m (behind_at 0 b.core.realm.slots).items) → HasOne a → HasOne b
 one-stays a b only =
     subst (λ (n : Node). ((m : ℕ) → OneAtMost m (behind_at 0 a.core.realm.slots).items → OneAtMost m (behind_at 0 n.core.realm.slots).items) → HasOne a → HasOne n) (sym only.is)
-    (λ keeps one may. keeps a.entrance.ahead (one may))
+    (λ keeps one fed may. keeps a.entrance.ahead (one fed may))
 
 pub works : (shape : Shape) (past : List Entry) (a b : Node) (m : Moment) (p : List ℕ → Type 0) → Since shape past a → Works a b → Handled shape a b m m p p
 works shape past a b m p since w =
@@ -38,5 +38,6 @@ works shape past a b m p since w =
       pushes = λ goes. subst (λ (n : Node). ArePushed b.core.realm.slots.age n.core.stages.items) (sym after.only.is)
           (pushed-longer a.core.realm.slots.age b.core.realm.slots.age a.core.stages.items after.older (since.pushes (goes-before a b w goes a.core.stopped refl)));
       one = one-stays a b after.only after.one since.one;
+      ends = after.ends since.ends;
       went = went-rests shape a b m p p (Gains-nothing p) w.stays since.led.is_of.stages after.only after.short;
     }

@@ -1,5 +1,5 @@
 -- What a run from an input to an output may end with.
-use Rattle.std.specs.Prelude.{◌≡◌, ◌≢◌, ◌+◌, ◌-◌, ◌<◌, ◌≤◌, ◌^◌, ℕ, ℤ, nat_abs, List, [], length, Option, Some, None, MatchOption, ◌↔◌, true, false}
+use Rattle.std.specs.Prelude.{◌≡◌, ◌≢◌, ◌+◌, ◌-◌, ◌<◌, ◌≤◌, ◌^◌, ℕ, ℤ, nat_abs, List, [], length, Option, Some, None, MatchOption, ◌↔◌, true, false, Contains}
 use Rattle.ws_value.specs.declared.fault.Fault.TheVariants.{Read, Write, TooMuch as TooMuchFault, Stage as StageFault, Abort as AbortFault}
 use Rattle.ws_value.specs.declared.value.Outcome.TheVariants.{Pending, Fulfilled, Rejected}
 use Rattle.ws_value.specs.declared.value.Plain.{Plain}
@@ -22,8 +22,10 @@ use Rattle.ws_runner.specs.declared.node.Input.TheVariants as input
 use Rattle.ws_runner.specs.declared.node.Node.{Node}
 use Rattle.ws_runner.specs.declared.node.Output.{Output}
 use Rattle.ws_runner.specs.declared.node.Output.TheVariants as output
-use Rattle.ws_runner.specs.Node.{outcome_of_pipe, has_settled, is_reached}
-use Rattle.ws_runner.specs.Past.{EndedAs, HasCounts}
+use Rattle.ws_joined_laws.specs.Reasons.{reasons_in}
+use Rattle.ws_runner.specs.Messages.{fairly}
+use Rattle.ws_runner.specs.Node.{outcome_of_pipe, has_settled, is_reached, received_at}
+use Rattle.ws_runner.specs.Past.{HasCounts, IsCause, IsOwnStage}
 
 -- how much of the input was read: all, to its end and without a fault; or some of it. An input is lost where it fails, and never breaks off
 pub record IsReadToEnd (old new : Moment) : Type 0 where
@@ -140,24 +142,30 @@ unless_finished output.Open status = status
 unless_finished output.Finished status = Done
 unless_finished output.Failed status = status
 unless_finished output.Aborted status = status
+unless_finished output.Edge status = status
 
--- where a node ends with a status
+-- where a node ends with a status by a cause of its own
 abbrev pub EndsBy : Status → Node → Type 0
 EndsBy Done n = n.exit.output ≡ output.Finished
 EndsBy ReadFault n = (n.exit.output ≢ output.Finished) × (n.entrance.input ≡ input.Failed)
 EndsBy WriteFault n = n.exit.output ≡ output.Failed
 EndsBy NoMemory n = n.exit.output ≢ output.Finished
 EndsBy TooMuch n = (n.exit.output ≢ output.Finished) × (n.entrance.input ≡ input.TooLong)
-EndsBy (Stage index code place) n = (n.exit.output ≢ output.Finished) × EndedAs index code place n.core.stages.items
+EndsBy (Stage index code place) n = (n.exit.output ≢ output.Finished) × IsOwnStage n index code place
 EndsBy Aborted n = (n.exit.output ≢ output.Finished) × (is_reached n.exit.abort ≡ true)
 EndsBy _ n = ⊥
+
+-- or by the reason of an error that came over the edge above
+pub data EndedBy (status : Status) (n : Node) : Type 0 where
+  Own : EndsBy status n → EndedBy status n
+  Passed : (r : Plain) → Contains (reasons_in (fairly (received_at n.entrance.above))) r → n.exit.output ≢ output.Finished → status ≡ status_of r → EndedBy status n
 
 -- The end of a node: none while its pipe is pending and memory wasn't wanting; else by how the pipe settled, and 0 wherever the output
 -- was finished. Each status has its cause
 pub record EndsAs (status : Option Status) (n : Node) : Type 0 where
   pub none : status ≡ None ↔ (has_settled (outcome_of_pipe n.core) ≡ false) × (n.core.stopped ≢ Some why.NoMemory)
   pub fulfilled : (v : Plain) → outcome_of_pipe n.core ≡ Some (Fulfilled v) → status ≡ Some Done
-  pub rejected : (r : Plain) → outcome_of_pipe n.core ≡ Some (Rejected r) → IsNamed r × (status ≡ Some (unless_finished n.exit.output (status_of r)))
+  pub rejected : (r : Plain) → outcome_of_pipe n.core ≡ Some (Rejected r) → IsCause n r × (status ≡ Some (unless_finished n.exit.output (status_of r)))
   pub wanting : outcome_of_pipe n.core ≡ Some Pending → n.core.stopped ≡ Some why.NoMemory → status ≡ Some (unless_finished n.exit.output NoMemory)
-  pub by : MatchOption status (Unit {0}) (λ s. EndsBy s n)
+  pub by : MatchOption status (Unit {0}) (λ s. EndedBy s n)
   pub counts : HasCounts n.entrance

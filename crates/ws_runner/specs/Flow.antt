@@ -1,5 +1,5 @@
 -- How what went out of a node stands to what came into it, once it has gone on for any number of turns.
-use Rattle.std.specs.Prelude.{◌≡◌, ◌≢◌, ◌<◌, ℕ, ℤ, nat_abs, List, length, Some}
+use Rattle.std.specs.Prelude.{◌≡◌, ◌≢◌, ◌+◌, ◌<◌, ◌≤◌, ◌^◌, ℕ, ℤ, nat_abs, List, ◌∷◌, ◌++◌, All, length, Some}
 use Rattle.std.specs.List.{concat}
 use Rattle.ws_flow.specs.declared.plan.Plan.{Plan}
 use Rattle.ws_flow.specs.Machines.{all_through, EndsWell}
@@ -12,18 +12,33 @@ use Rattle.ws_runner.specs.declared.node.Node.{Node}
 use Rattle.ws_runner.specs.declared.node.Output.TheVariants as output
 use Rattle.ws_runner.specs.Ends.{IsBad, out_of}
 use Rattle.ws_runner.specs.Node.{lying, parts, stages_in}
+use Rattle.ws_runner.specs.Opening.{IsAccepted}
 use Rattle.ws_runner.specs.Past.{EndedAs, IsNew}
-use Rattle.ws_runner.specs.Went.{AbortGoes, OutputGoes, StopsAt, Went}
+use Rattle.ws_runner.specs.Shares.{whole_of}
+use Rattle.ws_runner.specs.Went.{AbortGoes, OutputGoes, Went}
 
 -- an output that was finished has all: the input was read to its end, and each stage ended fine
 pub record IsWhole (plan : Plan) (read gain : List ℕ) : Type 0 where
   pub ends_well : EndsWell (machines (stages_of plan)) (as_one read Closed)
   pub all : out_of plan read Closed ≡ told gain Closed
 
--- a node that was new has read this, and this went out of it, of which the output gained so much: the parts of `Went` that say so
+-- of the chunks that went out, one holds the last byte that the output got, those before it have fewer bytes than are left to the abort, and it is short
+pub record StopsAt (left : ℕ) (chunks : List (List ℕ)) (gain : List ℕ) : Type 0 where
+  pub before : List (List ℕ)
+  pub chunk : List ℕ
+  pub after : List (List ℕ)
+  pub split : chunks ≡ before ++ (chunk ∷ after)
+  pub from : length (concat before) < length gain
+  pub to : length gain ≤ length (concat before) + length chunk
+  pub fewer : length (concat before) < left
+  pub short : length chunk < 2 ^ 25
+
+-- the node of a plan that was new has read this, and this went out of it, of which the output gained so much: the parts of `Went` that say so
 pub record HasGone (plan : Plan) (n : Node) (old new : Moment) (read went : Told (List ℕ)) (gain : List ℕ) (out : Mark) : Type 0 where
+  pub accepted : IsAccepted plan
   pub from : Node
-  pub is_new : IsNew plan from
+  pub is_new : IsNew (whole_of plan) 0 plan.abort_after from
+  pub short : All (λ c. length c ≤ 4096) read.items
   pub goes : Goes (machines (stages_in from.core)) read (parts from) (lying from) (parts n) (then_told went (lying n))
   pub written : IsShortOf (told gain out) (bytes_of went)
   pub output : OutputGoes from.exit.output n.exit.output gain out old new

@@ -17,8 +17,6 @@ use Rattle.ws_io.specs.declared.outside.Failed.{Failed}
 use Rattle.ws_steps.specs.declared.calls.Answer.TheVariants.{Ok as AnswerOk, Fail as AnswerFail}
 use Rattle.ws_steps.specs.declared.calls.Call.{Call}
 use Rattle.ws_steps.specs.declared.calls.Call.TheVariants.{Enqueue, Finish, Fail, Settle, Trigger}
-use Rattle.ws_steps.specs.declared.calls.Event.{Event}
-use Rattle.ws_steps.specs.declared.calls.Event.TheVariants.{Host, Settled, Signal, Post}
 use Rattle.ws_steps.specs.declared.calls.HostCall.{HostCall}
 use Rattle.ws_steps.specs.declared.calls.HostCall.TheVariants.{Pull as HostPull, Write as HostWrite, Close as HostClose, Transform as HostTransform, Flush as HostFlush}
 use Rattle.ws_steps.specs.declared.calls.Reply.TheVariants.{Done}
@@ -32,12 +30,13 @@ use Rattle.ws_value.specs.declared.memory.NoMemory.{NoMemory as NoMemoryError}
 use Rattle.ws_realm.specs.declared.realm.Why.{Why}
 use Rattle.ws_realm.specs.declared.realm.Why.TheVariants.{NoMemory, Spent}
 use Rattle.ws_runner.specs.declared.node.Input.{Input}
-use Rattle.ws_runner.specs.declared.node.Input.TheVariants.{Open as InputOpen, Ended, Failed as InputFailed, TooLong}
+use Rattle.ws_runner.specs.declared.node.Input.TheVariants.{Open as InputOpen, Ended, Failed as InputFailed, TooLong, Edge as InputEdge, Broken}
 use Rattle.ws_flow.specs.Parts.{Over}
 use Rattle.ws_runner.specs.declared.node.Abort.{Abort}
+use Rattle.ws_runner.specs.declared.node.Exit.{Exit}
 use Rattle.ws_runner.specs.declared.node.Node.{Node}
 use Rattle.ws_runner.specs.declared.node.Output.{Output}
-use Rattle.ws_runner.specs.declared.node.Output.TheVariants.{Open, Finished, Failed as OutputFailed, Aborted}
+use Rattle.ws_runner.specs.declared.node.Output.TheVariants.{Open, Finished, Failed as OutputFailed, Aborted, Edge}
 use Rattle.ws_runner.specs.Host.{GivesPiece}
 use Rattle.ws_chain_laws.specs.Chain.{source_of}
 use Rattle.ws_runner.specs.Node.{stage_of, is_reached}
@@ -110,12 +109,15 @@ is_readable InputOpen = true
 is_readable Ended = false
 is_readable InputFailed = false
 is_readable TooLong = false
+is_readable InputEdge = false
+is_readable (Broken reason) = false
 
 abbrev pub is_writable : Output → Bool
 is_writable Open = true
 is_writable Finished = false
 is_writable OutputFailed = false
 is_writable Aborted = false
+is_writable Edge = false
 
 -- an output that failed; one that wasn't open stays as it is
 abbrev pub shut : Output → Output
@@ -123,6 +125,7 @@ shut Open = OutputFailed
 shut Finished = Finished
 shut OutputFailed = OutputFailed
 shut Aborted = Aborted
+shut Edge = Edge
 
 -- how what is asked of an output fails, once it isn't open
 abbrev pub fault_of : Output → Fault
@@ -130,6 +133,15 @@ fault_of Open = WriteFault
 fault_of Finished = WriteFault
 fault_of OutputFailed = WriteFault
 fault_of Aborted = AbortFault
+fault_of Edge = WriteFault
+
+-- whether a stream is the one that feeds the output. A node that feeds an edge has none
+abbrev pub sink_by : Output → Bool → Bool
+sink_by Edge same = false
+sink_by o same = same
+
+abbrev pub is_sink : Exit → StreamId → Bool
+is_sink exit stream = sink_by exit.output (is_same exit.sink stream)
 
 abbrev pub settles : HostId → Call
 settles id = Settle id AnswerOk
@@ -204,17 +216,11 @@ pub record CanPush (piece : List ℕ) (w : State) : Type 0 where
   pub count : w.pushes < 2 ^ 62
   pub length_fits : HasLength w.stage (length piece)
 
--- a chunk that is written without stages is one that was counted
-abbrev pub MayWrite : List ℕ → Node → Type 0
-MayWrite piece n = n.exit.output ≡ Open → is_reached n.exit.abort ≡ false → n.core.stages.items ≡ [] → length piece ≤ n.entrance.ahead
-
--- a chunk that the first stage takes, or where there is none the output, is one that was counted; and one that a stage takes can be pushed
-pub record MayAnswer (n : Node) (call : HostCall) : Type 0 where
-  pub written : (piece : List ℕ) → call ≡ HostWrite n.exit.sink (Bytes piece) → MayWrite piece n
-  pub had : (i : StreamId) (piece : List ℕ) → call ≡ HostTransform i (Bytes piece) → (after : List State) (w : State) → IsAt i n.core.stages.items [] w after
-      → IsLive w.work → length piece ≤ n.entrance.ahead
-  pub pushed : (i : StreamId) (piece : List ℕ) → call ≡ HostTransform i (Bytes piece) → (before after : List State) (w : State)
-      → IsAt i n.core.stages.items before w after → IsLive w.work → CanPush piece w
+-- a chunk that a stage takes can be pushed
+abbrev pub MayAnswer : Node → HostCall → Type 0
+MayAnswer n call =
+    (i : StreamId) (piece : List ℕ) → call ≡ HostTransform i (Bytes piece) → (before after : List State) (w : State)
+    → IsAt i n.core.stages.items before w after → IsLive w.work → CanPush piece w
 
 -- a pull waits until it may be answered; the sink's chunks are written, and its close finishes the output; all else is settled at once
 abbrev pub Settles : HostId → Node → Node → Shown → Shown → (List ℕ → Type 0) → (List ℕ → Type 0) → Type 0
@@ -242,14 +248,14 @@ pub data Enqueues (i : StreamId) : List (List ℕ) → Node → Node → Type 0 
       → Enqueues i (piece ∷ rest) a b
 
 -- and what was asked of it ends as it did
-abbrev pub settles_by : HostId → StreamId → Ending → Call
-settles_by id i Fine = settles id
-settles_by id i (Bad code place) = fails id (StageFault (stage_of i) code place)
+abbrev pub settles_by : ℕ → HostId → StreamId → Ending → Call
+settles_by first id i Fine = settles id
+settles_by first id i (Bad code place) = fails id (StageFault (first + stage_of i) code place)
 
 pub record PutsAll (id : HostId) (i : StreamId) (p : Pushed) (a b : Node) : Type 0 where
   pub between : Node
   pub enqueued : Enqueues i p.chunks.items a between
-  pub ended : Asks (settles_by id i p.ending) between b
+  pub ended : Asks (settles_by a.core.first id i p.ending) between b
 
 abbrev pub PutsOut : HostId → StreamId → Result Pushed NoMemoryError → Node → Node → Type 0
 PutsOut id i (Ok p) a b = PutsAll id i p a b
@@ -296,21 +302,11 @@ pub data Flushes (id : HostId) (i : StreamId) (a b : Node) : Type 0 where
 
 abbrev pub Answers : HostId → HostCall → Node → Node → Shown → Shown → (List ℕ → Type 0) → (List ℕ → Type 0) → Type 0
 Answers id (HostPull i) a b old new got got' = (b ≡ record a { entrance = record a.entrance { asked = Some id } }) × Untouched old new got got'
-Answers id (HostWrite i v) a b old new got got' = writes_by id v a b old new got got' (is_same a.exit.sink i)
-Answers id (HostClose i) a b old new got got' = finishes_by id a b old new got got' (is_same a.exit.sink i)
+Answers id (HostWrite i v) a b old new got got' = writes_by id v a b old new got got' (is_sink a.exit i)
+Answers id (HostClose i) a b old new got got' = finishes_by id a b old new got got' (is_sink a.exit i)
 Answers id (HostTransform i v) a b old new got got' = transforms_by id i v a b × Untouched old new got got'
 Answers id (HostFlush i) a b old new got got' = Flushes id i a b × Untouched old new got got'
 Answers id _ a b old new got got' = Settles id a b old new got got'
-
--- an event is a call of the host, or tells of what it needs no answer to
-abbrev pub MayHear : Node → Event → Type 0
-MayHear n event = (id : HostId) (call : HostCall) → event ≡ Host id call → MayAnswer n call
-
-abbrev pub Hears : Event → Node → Node → Shown → Shown → (List ℕ → Type 0) → (List ℕ → Type 0) → Type 0
-Hears (Host id call) a b old new got got' = Answers id call a b old new got got'
-Hears (Settled p) a b old new got got' = (b ≡ a) × Untouched old new got got'
-Hears (Signal i reason) a b old new got got' = (b ≡ a) × Untouched old new got got'
-Hears (Post c m) a b old new got got' = (b ≡ a) × Untouched old new got got'
 
 -- why the input isn't read: the realm has stopped, or what was read before wasn't had, or the input isn't open, or no pull waits
 pub data NeedsNoRead (a : Node) : Type 0 where

@@ -1,14 +1,19 @@
 -- A node: the streams of its realm, its stages, and what lies before each of them and behind the last, on the way from the input to the output.
-use Rattle.std.specs.Prelude.{ℕ, zero, suc, ◌/◌, ◌==◌, Bool, false, not, ◌&&◌, ◌||◌, List, [], ◌∷◌, map, Option, Some, None}
+use Rattle.std.specs.Prelude.{ℕ, zero, suc, ◌/◌, ◌==◌, Bool, true, false, not, ◌&&◌, ◌||◌, is_some, if◌then◌else◌, List, [], ◌∷◌, ◌++◌, map, Option, Some, None}
 use Rattle.std.specs.List.{list_all}
+use Rattle.atomic_table.specs.Seated.{TableId}
+use Rattle.ws_value.specs.declared.ids.PortId.{PortId}
 use Rattle.ws_value.specs.declared.ids.PromiseId.{PromiseId}
 use Rattle.ws_value.specs.declared.ids.StreamId.{StreamId}
+use Rattle.ws_value.specs.declared.value.Message.{Message}
 use Rattle.ws_value.specs.declared.value.Outcome.{Outcome}
 use Rattle.ws_value.specs.declared.value.Value.{Value}
 use Rattle.ws_value.specs.declared.value.Value.TheVariants.{Plain, Bytes}
 use Rattle.ws_flow.specs.declared.plan.Stage.{Stage}
 use Rattle.ws_flow.specs.Parts.{AtWork, Part}
 use Rattle.ws_flow.specs.Steps.{parts_at, behind_of, coming_from}
+use Rattle.ws_edge.specs.Edge.{AtEdge}
+use Rattle.ws_flow.specs.Rows.{told_by}
 use Rattle.ws_flow.specs.Told.{Open as MayCome, Lost, Told, told, then_told}
 use Rattle.ws_stages.specs.State.{State}
 use Rattle.ws_steps.specs.Promises.{is_pending}
@@ -20,9 +25,12 @@ use Rattle.ws_realm.specs.Seen.{outcome_named}
 use Rattle.ws_realm.specs.declared.realm.Why.{Why}
 use Rattle.ws_runner.specs.declared.node.Abort.{Abort}
 use Rattle.ws_runner.specs.declared.node.Input.{Input}
-use Rattle.ws_runner.specs.declared.node.Input.TheVariants.{Open, Ended, Failed, TooLong}
+use Rattle.ws_runner.specs.declared.node.Input.TheVariants.{Open, Ended, Failed, TooLong, Edge, Broken}
 use Rattle.ws_runner.specs.declared.node.Core.{Core}
+use Rattle.ws_runner.specs.declared.node.Entrance.{Entrance}
 use Rattle.ws_runner.specs.declared.node.Node.{Node}
+use Rattle.ws_runner.specs.declared.node.Output.{Output}
+use Rattle.ws_runner.specs.declared.node.Output.TheVariants.{Open as OutputOpen, Finished, Failed as OutputFailed, Aborted, Edge as OutputEdge}
 
 -- The streams are those of a chain: link k goes from stream 2k to stream 2k + 1. Link 0 comes from the source, the last link goes to the sink, and from
 -- link k the stage of number k, from 0, takes its chunks, which puts out into link k + 1
@@ -43,12 +51,14 @@ in_bytes x = told (chunks_in x.items) x.mark
 abbrev pub nothing_yet : Told (List ℕ)
 nothing_yet = told [] MayCome
 
--- what comes behind a failed read, or behind more than the run may take, is lost
+-- what comes behind a failed read, behind more than the run may take, or behind an error that came over the edge, is lost
 abbrev pub lost_by : Input → Told (List ℕ)
 lost_by Open = nothing_yet
 lost_by Ended = nothing_yet
 lost_by Failed = told [] Lost
 lost_by TooLong = told [] Lost
+lost_by Edge = nothing_yet
+lost_by (Broken reason) = told [] Lost
 
 -- what comes behind a stage that is over: the end where it was flushed and ended fine, and nothing more, none of it missing, where it was bad
 abbrev pub coming_behind : ℕ → List State → Told (List ℕ)
@@ -63,6 +73,23 @@ coming_by input ws (suc k) = coming_behind k ws
 
 abbrev pub coming : Node → ℕ → Told (List ℕ)
 coming n k = coming_by n.entrance.input n.core.stages.items k
+
+-- whether a node is fed by an edge, and whether it feeds one
+
+abbrev pub is_edge : Input → Bool
+is_edge Open = false
+is_edge Ended = false
+is_edge Failed = false
+is_edge TooLong = false
+is_edge Edge = true
+is_edge (Broken reason) = true
+
+abbrev pub feeds_edge : Output → Bool
+feeds_edge OutputOpen = false
+feeds_edge Finished = false
+feeds_edge OutputFailed = false
+feeds_edge Aborted = false
+feeds_edge OutputEdge = true
 
 -- once the realm performs no more, all that lies in it is lost
 abbrev pub lying_by : Option Why → Told (List ℕ) → Told (List ℕ)
@@ -83,9 +110,39 @@ works_in core = map (λ w. w.work) core.stages.items
 abbrev pub parts : Node → List Part
 parts n = parts_at 0 (works_in n.core) (lies_in n)
 
--- and what lies behind the last of them
+-- and what lies behind the last of them in the realm
 abbrev pub lying : Node → Told (List ℕ)
 lying n = behind_of 0 (works_in n.core) (lies_in n)
+
+-- what was taken at an end, what was posted there, and what waits to be
+
+abbrev pub received_at : Option AtEdge → List Message
+received_at None = []
+received_at (Some e) = e.from.received
+
+abbrev pub sent_at : Option AtEdge → List Message
+sent_at None = []
+sent_at (Some e) = e.to.sent
+
+abbrev pub waiting_at : Option AtEdge → List Message
+waiting_at None = []
+waiting_at (Some e) = e.waiting
+
+abbrev pub given_at : Option AtEdge → List Message
+given_at o = sent_at o ++ waiting_at o
+
+-- which rows it is of
+abbrev pub rows_at : Option AtEdge → Option (TableId × TableId)
+rows_at None = None
+rows_at (Some e) = Some (e.from.row, e.to.row)
+
+-- the port of the edge below is the next one behind that of the edge above
+abbrev pub port_below : Entrance → PortId
+port_below entrance = if is_some entrance.above then record { 0 = 1 } else record { 0 = 0 }
+
+-- what came out of the last stage and didn't go out: what waits to be posted to the node below, and behind that what lies in the realm
+abbrev pub held : Node → Told (List ℕ)
+held n = then_told (told_by (waiting_at n.exit.below)) (lying n)
 
 abbrev pub stages_in : Core → List Stage
 stages_in core = map (λ w. w.stage) core.stages.items
@@ -115,3 +172,7 @@ abbrev pub has_ended : Core → Bool
 has_ended core =
     is_empty core.realm.slots.promises.events
     && (has_settled (outcome_of_pipe core) && list_all (has_settled_in core.realm.slots) core.pipes_before.items)
+
+-- and besides nothing waits to be posted
+abbrev pub is_over : Node → Bool
+is_over n = has_ended n.core && (is_empty (waiting_at n.entrance.above) && is_empty (waiting_at n.exit.below))

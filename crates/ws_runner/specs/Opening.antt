@@ -1,32 +1,27 @@
 -- How the realm of a node is made: the source, a transform stream for each stage, and the sink; a signal where the run is aborted after some bytes;
 -- and then the pipes, in order, of which the last one has the signal. The calls are those that open a chain.
-use Rattle.std.specs.Prelude.{◌≡◌, ℕ, zero, suc, ℤ, List, [], ◌∷◌, length, Bool, is_some, Option, Some, None, nat_abs}
+use Rattle.std.specs.Prelude.{◌≡◌, ℕ, zero, suc, ℤ, List, [], ◌∷◌, Option, Some, None, nat_abs}
 use Rattle.ws_value.specs.declared.ids.PromiseId.{PromiseId}
 use Rattle.ws_flow.specs.declared.plan.Plan.{Plan}
 use Rattle.ws_flow.specs.declared.plan.Stage.{Stage}
-use Rattle.ws_flow.specs.Plans.{refusal, stages_of}
+use Rattle.ws_flow.specs.Plans.{refusal}
 use Rattle.ws_stages.specs.State.{State, begun}
 use Rattle.ws_steps.specs.declared.calls.Call.{Call}
 use Rattle.ws_steps.specs.declared.calls.Reply.{Reply}
 use Rattle.ws_steps.specs.declared.calls.Reply.TheVariants.{Promise}
 use Rattle.ws_steps.specs.Run.{Entry, reply_to, after_call}
 use Rattle.ws_steps.specs.Slots.{Slots}
-use Rattle.ws_chain_laws.specs.Opening.{piping, signal_of, opened, made}
-use Rattle.ws_chain_laws.specs.Outcomes.{past_of}
+use Rattle.ws_chain_laws.specs.Opening.{piping, made}
+use Rattle.ws_chain_laws.specs.Chain.{dest_of}
+use Rattle.ws_chain_laws.specs.Outcomes.{past_of, last_promise}
 use Rattle.ws_realm.specs.Seen.{SeenRealm}
+use Rattle.ws_runner.specs.declared.making.Opened.{Opened}
 use Rattle.ws_runner.specs.declared.node.Abort.{Abort}
-use Rattle.ws_chain_laws.specs.Chain.{FromBytes, ToSink}
+use Rattle.ws_runner.specs.Shape.{Shape, count_in}
 
 -- a plan that isn't refused
 abbrev pub IsAccepted : Plan → Type 0
 IsAccepted plan = refusal plan ≡ None
-
--- how many stages it has, and whether it is aborted after some bytes
-abbrev pub count_of : Plan → ℕ
-count_of plan = length (stages_of plan)
-
-abbrev pub is_aborted : Plan → Bool
-is_aborted plan = is_some plan.abort_after
 
 -- a call was performed
 pub record Begins (c : Call) (old new : SeenRealm) (reply : Reply) : Type 0 where
@@ -39,13 +34,10 @@ IsPromise (Promise p) = Unit {0}
 IsPromise _ = ⊥
 
 -- the calls that open the realm
-abbrev pub opening_by : Plan → List Entry
-opening_by plan = past_of FromBytes ToSink (count_of plan) (is_aborted plan) []
+abbrev pub opening_by : Shape → List Entry
+opening_by shape = past_of shape.origin shape.target (count_in shape) shape.aborted []
 
--- the promise of the last pipe, and those of the pipes before, each by the reply that named it
-
-abbrev pub IsAnswered : Plan → PromiseId → Type 0
-IsAnswered plan p = reply_to (piping (signal_of (is_aborted plan)) (count_of plan)) (opened FromBytes ToSink (count_of plan) (is_aborted plan)) ≡ Promise p
+-- the promises of the pipes before the last, each by the reply that named it
 
 abbrev pub AreAnswered : ℕ → ℕ → Slots → List PromiseId → Type 0
 AreAnswered k zero s ps = ps ≡ []
@@ -53,8 +45,8 @@ AreAnswered k (suc n) s [] = ⊥
 AreAnswered k (suc n) s (p ∷ ps) =
     (reply_to (piping None k) s ≡ Promise p) × AreAnswered (suc k) n (after_call (piping None k) s) ps
 
-abbrev pub AreAnsweredOf : Plan → List PromiseId → Type 0
-AreAnsweredOf plan ps = AreAnswered 0 (count_of plan) (made FromBytes ToSink (count_of plan) (is_aborted plan)) ps
+abbrev pub AreAnsweredOf : Shape → List PromiseId → Type 0
+AreAnsweredOf shape ps = AreAnswered 0 (count_in shape) (made shape.origin shape.target (count_in shape) shape.aborted) ps
 
 -- so many pipes from this number on can be made
 abbrev pub CanPipe : ℕ → ℕ → Slots → Type 0
@@ -70,3 +62,11 @@ all_begun (s ∷ ss) = begun s ∷ all_begun ss
 abbrev pub abort_of : Option ℤ → Option Abort
 abort_of None = None
 abort_of (Some after) = Some (record { signal = record { 0 = 0 }; left = nat_abs after })
+
+-- what a node of this shape has of its realm once that is opened
+pub record IsOpened (shape : Shape) (after : Option ℤ) (x : Opened) : Type 0 where
+  pub stages : x.stages.items ≡ all_begun shape.stages
+  pub abort : x.abort ≡ abort_of after
+  pub pipes : AreAnsweredOf shape x.pipes_before.items
+  pub pipe : x.pipe ≡ last_promise shape.origin shape.target (count_in shape) shape.aborted
+  pub sink : x.sink ≡ dest_of (count_in shape)

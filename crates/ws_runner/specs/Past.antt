@@ -1,29 +1,37 @@
--- What holds of a node between turns, by its shape and all that led to it: its links are wired, and its host knows what became of what they brought. None of it
--- but `IsOf` and a new node speaks of a plan.
-use Rattle.std.specs.Prelude.{◌≡◌, ◌≢◌, ◌+◌, ◌<◌, ◌≤◌, ◌^◌, ℕ, Bool, true, not, ◌&&◌, List, [], ◌∷◌, ◌++◌, length, All, Option, Some, None, slice_get, option_map, nat_abs}
+-- What holds of a node between turns, by its shape and all that led to it: its links are wired, and its host knows what became of what they brought.
+use Rattle.std.specs.Prelude.{◌≡◌, ◌≢◌, ◌+◌, ◌<◌, ◌≤◌, ◌^◌, ℕ, ℤ, Bool, true, false, not, ◌&&◌, is_some, if◌then◌else◌, List, [], ◌∷◌, ◌++◌, length, All, Contains, Option, Some, None, slice_get, option_map}
 use Rattle.ws_value.specs.declared.fault.Fault.{Fault}
 use Rattle.ws_value.specs.declared.fault.Fault.TheVariants.{TypeError, RangeError, DataClone, User, Read, Write, Stage, TooMuch, Abort, NoMemory}
 use Rattle.ws_value.specs.declared.ids.HostId.{HostId}
+use Rattle.ws_value.specs.declared.ids.PortId.{PortId}
 use Rattle.ws_value.specs.declared.ids.StreamId.{StreamId}
+use Rattle.ws_value.specs.declared.value.Message.{Message}
+use Rattle.ws_value.specs.declared.value.Message.TheVariants.{Error}
 use Rattle.ws_value.specs.declared.value.Plain.{Plain}
 use Rattle.ws_value.specs.declared.value.Plain.TheVariants.{Undefined, Number, Fault as FaultReason, Pair, Local}
 use Rattle.ws_value.specs.declared.value.Value.{Value}
 use Rattle.ws_value.specs.declared.value.Value.TheVariants.{Plain as PlainValue, Bytes}
 use Rattle.ws_flow.specs.declared.plan.Ending.TheVariants.{Fine, Bad}
-use Rattle.ws_flow.specs.declared.plan.Plan.{Plan}
+use Rattle.ws_edge.specs.Edge.{AtEdge, given}
 use Rattle.ws_flow.specs.declared.plan.Stage.{Stage as PlanStage}
 use Rattle.ws_flow.specs.Parts.{Over, Flows, fresh}
-use Rattle.ws_flow.specs.Plans.{stages_of}
+use Rattle.ws_flow.specs.Rows.{told_by}
 use Rattle.ws_flow.specs.Stages.{machines}
 use Rattle.ws_flow.specs.Told.{Open as MayCome, Told, then_told}
 use Rattle.ws_stages.specs.State.{State, is_live}
 use Rattle.ws_steps.specs.declared.calls.HostCall.TheVariants.{Pull, Close, Flush}
+use Rattle.ws_steps.specs.declared.calls.Call.TheVariants.{Deliver}
+use Rattle.ws_steps.specs.PortHistory.{has_end, posted_in}
 use Rattle.ws_steps.specs.Run.{Entry, Called, run}
 use Rattle.ws_steps.specs.Slots.{empty}
 use Rattle.ws_end_laws.specs.hosts.HostCalls.{called, settles_well}
-use Rattle.ws_chain_laws.specs.Chain.{FromBytes, ToSink, source_of, dest_of, behind_at}
+use Rattle.ws_chain_laws.specs.Chain.{Origin, FromChunks, FromBytes, FromPort, Target, ToSink, ToPort, source_of, dest_of, behind_at, source_port, sink_port}
 use Rattle.ws_chain_laws.specs.Opening.{signal_of}
+use Rattle.ws_chain_laws.specs.Outcomes.{last_promise}
+use Rattle.ws_joined_laws.specs.Reasons.{reasons_in}
+use Rattle.ws_node_laws.specs.Messages.{delivered_to, taken_events}
 use Rattle.ws_realm.specs.Seen.{oldest}
+use Rattle.ws_realm.specs.declared.realm.Why.{Why}
 use Rattle.ws_realm.specs.declared.realm.Why.TheVariants.{Spent}
 use Rattle.ws_reason_laws.specs.Reasons.{failures}
 use Rattle.ws_runner.specs.declared.node.Abort.{Abort as AbortOf}
@@ -34,14 +42,16 @@ use Rattle.ws_runner.specs.declared.node.Input.TheVariants as input
 use Rattle.ws_runner.specs.declared.node.Node.{Node}
 use Rattle.ws_runner.specs.declared.node.Output.{Output}
 use Rattle.ws_runner.specs.declared.node.Output.TheVariants as output
+use Rattle.ws_runner.specs.Fair.{AllBringFair}
 use Rattle.ws_runner.specs.Moves.{IsAt, is_writable}
-use Rattle.ws_runner.specs.Node.{stages_in, nothing_yet, parts, lying, is_reached}
-use Rattle.ws_runner.specs.Opening.{IsAccepted, count_of, is_aborted, IsAnswered, AreAnsweredOf, opening_by, all_begun, abort_of}
-use Rattle.ws_runner.specs.Ran.{HasRun, IsPiped}
-use Rattle.ws_runner.specs.Shape.{AreFit, Shape, count_in}
+use Rattle.ws_runner.specs.Messages.{fairly}
+use Rattle.ws_runner.specs.Node.{stages_in, nothing_yet, parts, held, is_reached, is_edge, feeds_edge, received_at, sent_at}
+use Rattle.ws_runner.specs.Opening.{AreAnsweredOf, opening_by, all_begun, abort_of}
+use Rattle.ws_runner.specs.Ran.{HasRun}
+use Rattle.ws_runner.specs.Shape.{AreFit, Shape, count_in, is_from_edge, is_to_edge}
 
--- The reasons with which a node fails something: each has its cause in what became of the input, of the output or of a stage, or in an abort that was
--- reached
+-- The reasons with which a node fails something: each came with an error over the edge above, as the node takes it, or has its cause in what became of the input, of the
+-- output or of a stage, or in an abort that was reached
 
 -- the stage of this number, from 1, ended so
 pub record EndedAs (number code place : ℕ) (stages : List State) : Type 0 where
@@ -52,30 +62,54 @@ pub record EndedAs (number code place : ℕ) (stages : List State) : Type 0 wher
   pub whole : stages ≡ before ++ state ∷ after
   pub over : state.work ≡ Over (Bad code place)
 
-abbrev pub IsCauseFault : Node → Fault → Type 0
-IsCauseFault n Read = n.entrance.input ≡ input.Failed
-IsCauseFault n TooMuch = n.entrance.input ≡ input.TooLong
-IsCauseFault n Write = (n.exit.output ≢ output.Open) × (n.exit.output ≢ output.Aborted)
-IsCauseFault n (Stage index code place) = EndedAs index code place n.core.stages.items
-IsCauseFault n Abort = is_reached n.exit.abort ≡ true
-IsCauseFault n TypeError = ⊥
-IsCauseFault n RangeError = ⊥
-IsCauseFault n DataClone = ⊥
-IsCauseFault n (User k) = ⊥
-IsCauseFault n NoMemory = ⊥
+-- an output that was open once and takes no more, but not for the abort
+abbrev pub is_shut : Output → Bool
+is_shut output.Open = false
+is_shut output.Finished = true
+is_shut output.Failed = true
+is_shut output.Aborted = false
+is_shut output.Edge = false
 
-abbrev pub IsCause : Node → Plain → Type 0
-IsCause n (FaultReason fault) = IsCauseFault n fault
-IsCause n Undefined = ⊥
-IsCause n (Number k) = ⊥
-IsCause n (Pair t) = ⊥
-IsCause n (Local k) = ⊥
+-- the stage of this number in the plan ended so: the node counts the stages on the nodes before it
+pub record IsOwnStage (n : Node) (index code place : ℕ) : Type 0 where
+  pub number : ℕ
+  pub counted : index ≡ n.core.first + number
+  pub ended : EndedAs number code place n.core.stages.items
 
--- the host settled the close of the sink well only where it has finished the output
+abbrev pub IsOwnFault : Node → Fault → Type 0
+IsOwnFault n Read = n.entrance.input ≡ input.Failed
+IsOwnFault n TooMuch = n.entrance.input ≡ input.TooLong
+IsOwnFault n Write = is_shut n.exit.output ≡ true
+IsOwnFault n (Stage index code place) = IsOwnStage n index code place
+IsOwnFault n Abort = is_reached n.exit.abort ≡ true
+IsOwnFault n TypeError = ⊥
+IsOwnFault n RangeError = ⊥
+IsOwnFault n DataClone = ⊥
+IsOwnFault n (User k) = ⊥
+IsOwnFault n NoMemory = ⊥
+
+abbrev pub IsOwnCause : Node → Plain → Type 0
+IsOwnCause n (FaultReason fault) = IsOwnFault n fault
+IsOwnCause n Undefined = ⊥
+IsOwnCause n (Number k) = ⊥
+IsOwnCause n (Pair t) = ⊥
+IsOwnCause n (Local k) = ⊥
+
+pub data IsCause (n : Node) (r : Plain) : Type 0 where
+  Passed : Contains (reasons_in (fairly (received_at n.entrance.above))) r → IsCause n r
+  Own : IsOwnCause n r → IsCause n r
+
+-- So is each reason by which something failed; where the node feeds an edge, until an error came up from there, which justifies nothing
+pub data AreCaused (shape : Shape) (past : List Entry) (n : Node) : Type 0 where
+  AllCaused : All (IsCause n) (failures past) → AreCaused shape past n
+  UntilError : shape.target ≡ ToPort → (before after : List Entry) (up : Plain) → past ≡ before ++ Called (Deliver (sink_port shape.origin) (Error up)) ∷ after
+      → All (IsCause n) (failures before) → AreCaused shape past n
+
+-- where the output isn't an edge, the host settled the close of the sink well only where it has finished the output
 abbrev pub ClosesFinished : StreamId → List Entry → Output → Type 0
 ClosesFinished sink entries o =
     (before after : List Entry) (id : HostId) → entries ≡ before ++ Called (settles_well id) ∷ after
-    → slice_get (called before) id.0 ≡ Some (Close sink) → o ≡ output.Finished
+    → slice_get (called before) id.0 ≡ Some (Close sink) → feeds_edge o ≡ false → o ≡ output.Finished
 
 -- the host settled the flush of a stage well only where that ended fine
 abbrev pub FlushesFine : List Entry → List State → Type 0
@@ -115,24 +149,26 @@ HasCounts entrance = Counts entrance.most entrance.taken entrance.ahead entrance
 abbrev pub ArePushed : ℕ → List State → Type 0
 ArePushed age stages = All (λ w. w.pushes < age) stages
 
--- the stages, the abort and the limit are those of this plan
-pub record IsOf (plan : Plan) (n : Node) : Type 0 where
-  pub accepted : IsAccepted plan
-  pub stages : stages_in n.core ≡ stages_of plan
-  pub source : n.entrance.source ≡ source_of 0
-  pub sink : n.exit.sink ≡ dest_of (count_of plan)
-  pub most : n.entrance.most ≡ nat_abs plan.max_input
-  pub signal : option_map (λ a. a.signal) n.exit.abort ≡ signal_of (is_aborted plan)
-
 -- the output refused what came behind the abort only where that was reached
 abbrev pub AbortsReached : Exit → Type 0
 AbortsReached exit = exit.output ≡ output.Aborted → is_reached exit.abort ≡ true
 
+-- by what a node is fed and what it feeds: the input and the output, or an edge, of which it has the end then
+
+abbrev pub IsFedAs : Origin → Entrance → Type 0
+IsFedAs FromBytes e = (is_edge e.input ≡ false) × (e.above ≡ None)
+IsFedAs FromPort e = (is_edge e.input ≡ true) × (is_some e.above ≡ true)
+IsFedAs FromChunks e = ⊥
+
+abbrev pub FeedsAs : Target → Exit → Type 0
+FeedsAs ToSink x = (feeds_edge x.output ≡ false) × (x.below ≡ None)
+FeedsAs ToPort x = (feeds_edge x.output ≡ true) × (is_some x.below ≡ true)
+
 -- the stages, the ends, the limit and the signal of a node are those of its shape
 pub record IsShaped (shape : Shape) (n : Node) : Type 0 where
   pub fit : AreFit shape.stages
-  pub from : shape.origin ≡ FromBytes
-  pub into : shape.target ≡ ToSink
+  pub from : IsFedAs shape.origin n.entrance
+  pub into : FeedsAs shape.target n.exit
   pub stages : stages_in n.core ≡ shape.stages
   pub source : n.entrance.source ≡ source_of 0
   pub sink : n.exit.sink ≡ dest_of (count_in shape)
@@ -143,8 +179,9 @@ pub record IsShaped (shape : Shape) (n : Node) : Type 0 where
 pub record Led (shape : Shape) (past : List Entry) (n : Node) : Type 0 where
   pub is_of : IsShaped shape n
   pub ran : HasRun shape past n.core.realm.slots
-  pub piped : IsPiped (count_in shape) past n.core.pipe
-  pub failed : All (IsCause n) (failures past)
+  pub piped : n.core.pipe ≡ last_promise shape.origin shape.target (count_in shape) shape.aborted
+  pub clones : AllBringFair past
+  pub failed : AreCaused shape past n
   pub closes : ClosesFinished n.exit.sink past n.exit.output
   pub flushes : FlushesFine past n.core.stages.items
   pub asked : IsPull past n.entrance.asked
@@ -154,30 +191,74 @@ pub record Led (shape : Shape) (past : List Entry) (n : Node) : Type 0 where
   -- the realm has stopped as one that is spent only where it is
   pub spent : n.core.stopped ≡ Some Spent → n.core.realm.slots.age ≡ oldest
 
--- whether what is read may still come to be had: while the first stage may be asked, or without stages the output may be written
+-- whether what is read may still come to be had: while the first stage may be asked, or without stages the output may be written or there is an edge
 abbrev pub may_have : List State → Output → Option AbortOf → Bool
 may_have (w ∷ ws) o abort = is_live w.work
 may_have [] o abort = is_writable o && not (is_reached abort)
 
--- what is behind the host on the first link is then one chunk at most, of the bytes that weren't had
+-- of what the input gave, what is behind the host on the first link is then one chunk at most, of the bytes that weren't had
 abbrev pub HasOne : Node → Type 0
-HasOne n = may_have n.core.stages.items n.exit.output n.exit.abort ≡ true → OneAtMost n.entrance.ahead (behind_at 0 n.core.realm.slots).items
+HasOne n =
+    is_edge n.entrance.input ≡ false → may_have n.core.stages.items n.exit.output n.exit.abort ≡ true
+    → OneAtMost n.entrance.ahead (behind_at 0 n.core.realm.slots).items
 
--- Since the node was made these pieces came in, none of more than 4,096 bytes, and went through the stages to what went out and what lies in it. So no
--- chunk that lies in it reaches 2^25 bytes
+-- how many bytes a piece may have that comes in: as many as a read takes, or fewer than 2^25 over an edge
+abbrev pub most_of_piece : Input → ℕ
+most_of_piece i = if is_edge i then 33554431 else 4096
+
+-- what came in over an edge is what was taken of it, and what went out over one is what was posted
+
+abbrev pub CameBy : Entrance → Told (List ℕ) → Type 0
+CameBy e came = is_edge e.input ≡ true → came ≡ told_by (fairly (received_at e.above))
+
+abbrev pub WentBy : Exit → Told (List ℕ) → Type 0
+WentBy x went = feeds_edge x.output ≡ true → went ≡ told_by (sent_at x.below)
+
+-- Since the node was made these pieces came in, none longer than may be, and went through the stages to what went out and what lies in it. So no
+-- chunk that lies in it is too long for a stage
 pub record IsFed (stages : List PlanStage) (n : Node) : Type 0 where
   pub came : Told (List ℕ)
   pub went : Told (List ℕ)
-  pub short : All (λ c. length c ≤ 4096) came.items
+  pub came_by : CameBy n.entrance came
+  pub went_by : WentBy n.exit went
+  pub short : All (λ c. length c ≤ most_of_piece n.entrance.input) came.items
   -- while the output may be written, more may go out
   pub goes_on : n.exit.output ≡ output.Open → went.mark ≡ MayCome
-  pub flows : Flows (machines stages) came (parts n) (then_told went (lying n))
+  pub flows : Flows (machines stages) came (parts n) (then_told went (held n))
+
+-- what an end was given to post is what its port posted, of which the node has heard; where no memory was to be had, a first part of that, and at
+-- most one error behind it
+pub data IsGiven (posted given : List Message) (stopped : Option Why) : Type 0 where
+  Whole : given ≡ posted → IsGiven posted given stopped
+  FirstPart : stopped ≢ None → (rest : List Message) → posted ≡ given ++ rest → IsGiven posted given stopped
+  WithLast : stopped ≢ None → (first rest : List Message) → posted ≡ first ++ rest → has_end first ≡ false → given ≡ first ++ Error (FaultReason NoMemory) ∷ []
+      → IsGiven posted given stopped
+
+-- what was taken of an end was delivered to its port, but for the last message where the realm has stopped
+pub record IsDelivered (delivered received : List Message) (stopped : Option Why) : Type 0 where
+  pub rest : List Message
+  pub first : fairly received ≡ delivered ++ rest
+  pub all : stopped ≡ None → rest ≡ []
+
+pub record HasMessages (port : PortId) (past : List Entry) (stopped : Option Why) (e : AtEdge) : Type 0 where
+  pub given : IsGiven (posted_in port (taken_events past empty)) (given e) stopped
+  pub taken : IsDelivered (delivered_to port past) e.from.received stopped
+
+abbrev pub EndHas : PortId → List Entry → Option Why → Option AtEdge → Type 0
+EndHas port past stopped None = Unit {0}
+EndHas port past stopped (Some e) = HasMessages port past stopped e
+
+-- of both ends
+pub record EndsHave (shape : Shape) (past : List Entry) (n : Node) : Type 0 where
+  pub above : EndHas source_port past n.core.stopped n.entrance.above
+  pub below : EndHas (sink_port shape.origin) past n.core.stopped n.exit.below
 
 pub record Since (shape : Shape) (past : List Entry) (n : Node) : Type 0 where
   pub led : Led shape past n
   pub pushes : n.core.stopped ≡ None → ArePushed n.core.realm.slots.age n.core.stages.items
   pub one : HasOne n
   pub fed : IsFed shape.stages n
+  pub ends : EndsHave shape past n
 
 -- a node between turns
 pub record Driven (n : Node) : Type 0 where
@@ -185,31 +266,44 @@ pub record Driven (n : Node) : Type 0 where
   pub past : List Entry
   pub since : Since shape past n
 
--- a new node: nothing was read or written, and nothing lies in it
-pub record IsNew (plan : Plan) (n : Node) : Type 0 where
-  pub is_of : IsOf plan n
-  pub pipes : AreAnsweredOf plan n.core.pipes_before.items
-  pub parts : parts n ≡ fresh (machines (stages_of plan))
-  pub lying : lying n ≡ nothing_yet
-  pub abort : n.exit.abort ≡ abort_of plan.abort_after
+-- an end of an edge on which nothing was taken or posted, and where nothing waits
+abbrev pub IsUnused : Option AtEdge → Type 0
+IsUnused None = Unit {0}
+IsUnused (Some e) = (e.from.received ≡ []) × (e.to.sent ≡ []) × (e.waiting ≡ [])
+
+-- a new node of this shape, behind so many stages: nothing was read or written, taken or posted, and nothing lies in it
+pub record IsNew (shape : Shape) (first : ℕ) (after : Option ℤ) (n : Node) : Type 0 where
+  pub is_of : IsShaped shape n
+  pub first_is : n.core.first ≡ first
+  pub pipes : AreAnsweredOf shape n.core.pipes_before.items
+  pub parts : parts n ≡ fresh (machines shape.stages)
+  pub held : held n ≡ nothing_yet
+  pub abort : n.exit.abort ≡ abort_of after
   pub taken : n.entrance.taken ≡ 0
   pub ahead : n.entrance.ahead ≡ 0
-  pub input : n.entrance.input ≡ input.Open
-  pub output : n.exit.output ≡ output.Open
+  pub input : n.entrance.input ≡ (if is_from_edge shape.origin then input.Edge else input.Open)
+  pub output : n.exit.output ≡ (if is_to_edge shape.target then output.Edge else output.Open)
+  pub above : IsUnused n.entrance.above
+  pub below : IsUnused n.exit.below
 
 -- as it is made: the calls that open its realm were performed
-pub record IsFresh (plan : Plan) (n : Node) : Type 0 where
-  pub slots : n.core.realm.slots ≡ run (opening_by plan) empty
-  pub stages : n.core.stages.items ≡ all_begun (stages_of plan)
+pub record IsFresh (shape : Shape) (first : ℕ) (after : Option ℤ) (n : Node) : Type 0 where
+  pub slots : n.core.realm.slots ≡ run (opening_by shape) empty
+  pub stages : n.core.stages.items ≡ all_begun shape.stages
+  pub first_is : n.core.first ≡ first
   pub source : n.entrance.source ≡ source_of 0
-  pub sink : n.exit.sink ≡ dest_of (count_of plan)
-  pub answered : IsAnswered plan n.core.pipe
-  pub before_answered : AreAnsweredOf plan n.core.pipes_before.items
-  pub abort : n.exit.abort ≡ abort_of plan.abort_after
-  pub most : n.entrance.most ≡ nat_abs plan.max_input
+  pub sink : n.exit.sink ≡ dest_of (count_in shape)
+  pub answered : n.core.pipe ≡ last_promise shape.origin shape.target (count_in shape) shape.aborted
+  pub before_answered : AreAnsweredOf shape n.core.pipes_before.items
+  pub abort : n.exit.abort ≡ abort_of after
+  pub most : n.entrance.most ≡ shape.most
   pub taken : n.entrance.taken ≡ 0
   pub ahead : n.entrance.ahead ≡ 0
   pub asked : n.entrance.asked ≡ None
-  pub input : n.entrance.input ≡ input.Open
-  pub output : n.exit.output ≡ output.Open
+  pub from : IsFedAs shape.origin n.entrance
+  pub into : FeedsAs shape.target n.exit
+  pub input : n.entrance.input ≡ (if is_from_edge shape.origin then input.Edge else input.Open)
+  pub output : n.exit.output ≡ (if is_to_edge shape.target then output.Edge else output.Open)
+  pub above : IsUnused n.entrance.above
+  pub below : IsUnused n.exit.below
   pub stopped : n.core.stopped ≡ None

@@ -1,18 +1,16 @@
 -- The shape of a node: what stays of it from its making on. What is shown of a node between turns is said of its shape and of all that led to it; only its
 -- making knows of a plan.
-use Rattle.std.specs.Prelude.{◌≡◌, ◌≤◌, ℕ, Bool, true, List, length, nat_abs}
+use Rattle.std.specs.Prelude.{◌≡◌, ◌≤◌, ℕ, Bool, true, false, List, length}
 use Rattle.std.specs.List.{count_by, list_all}
-use Rattle.ws_flow.specs.declared.plan.Plan.{Plan}
 use Rattle.ws_flow.specs.declared.plan.Stage.{Stage}
-use Rattle.ws_flow.specs.Plans.{is_hex, stages_of}
+use Rattle.ws_flow.specs.Plans.{is_hex}
 use Rattle.ws_flow.specs.Stages.{is_in_range}
 use Rattle.ws_wire_laws.specs.Wire.{Joint}
 use Rattle.ws_value.specs.declared.value.Value.{Value}
 use Rattle.ws_steps.specs.declared.calls.Call.{Call}
 use Rattle.ws_steps.specs.declared.calls.Event.{Event}
 use Rattle.ws_flow.specs.Told.{Told}
-use Rattle.ws_chain_laws.specs.Chain.{Origin, FromBytes, Target, ToSink, links_of, call_enters, heard_at}
-use Rattle.ws_runner.specs.Opening.{is_aborted}
+use Rattle.ws_chain_laws.specs.Chain.{Origin, FromChunks, FromBytes, FromPort, Target, ToSink, ToPort, links_of, call_enters, heard_at}
 
 pub record Shape : Type 0 where
   -- the kinds of its first source and of its last destination
@@ -39,9 +37,16 @@ enters_in shape k c = call_enters shape.origin k c
 abbrev pub hears_in : Shape → ℕ → Event → Told Value
 hears_in shape k e = heard_at shape.origin shape.target (count_in shape) k e
 
--- the shape of the one node of a plan
-abbrev pub shape_of : Plan → Shape
-shape_of plan = record { origin = FromBytes; target = ToSink; stages = stages_of plan; aborted = is_aborted plan; most = nat_abs plan.max_input }
+-- whether it is fed by an edge, and whether it feeds one
+
+abbrev pub is_from_edge : Origin → Bool
+is_from_edge FromChunks = false
+is_from_edge FromBytes = false
+is_from_edge FromPort = true
+
+abbrev pub is_to_edge : Target → Bool
+is_to_edge ToSink = false
+is_to_edge ToPort = true
 
 -- stages as a plan may have them that isn't refused: so what lies between them stays short
 pub record AreFit (stages : List Stage) : Type 0 where

@@ -9,7 +9,7 @@ use Rattle.ws_flow.specs.Machines.{all_through}
 use Rattle.ws_flow.specs.Parts.{residual}
 use Rattle.ws_flow.specs.Plans.{stages_of}
 use Rattle.ws_flow.specs.Stages.{machines}
-use Rattle.ws_flow.specs.Told.{Mark, Lost, Told, then_told}
+use Rattle.ws_flow.specs.Told.{Mark, Told, then_told}
 use Rattle.ws_io.specs.Moment.{Moment}
 use Rattle.ws_end_laws.specs.ends.PassedAll.{is_failing}
 use Rattle.ws_chain_laws.specs.Chain.{source_of, dest_of, link_of}

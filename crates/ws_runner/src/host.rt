@@ -1,19 +1,20 @@
 //! What the host of a node does as it is asked: a pull reads the input once, a transform or a flush asks the stage and
 //! enqueues what comes out, a write writes its chunk whole, a close finishes the output.
-ghost use Rattle.std.specs.Prelude.{◌≡◌, ◌<◌, ◌≤◌, ◌+◌, ◌^◌, ℕ, suc, [], false, length, true, IfOk, MatchOption, None, OnErr};
+ghost use Rattle.std.specs.Prelude.{◌≡◌, ◌<◌, ◌≤◌, ◌+◌, ◌-◌, ◌^◌, ℕ, suc, [], false, length, true, IfOk, MatchOption, None, OnErr};
 ghost use Rattle.ws_chain_laws.specs.Chain.{source_of};
 ghost use Rattle.ws_io.specs.Moment.{moment};
 ghost use Rattle.ws_runner.specs.declared.node.Output.TheVariants as output_is;
+ghost use Rattle.ws_runner.specs.Hears.{Hears, MayHear};
 ghost use Rattle.ws_runner.specs.Host.{GivesPiece};
 ghost use Rattle.ws_steps.specs.Histories.{is_same};
 ghost use Rattle.ws_steps.specs.declared.calls.HostCall.TheVariants as host_call;
-ghost use Rattle.ws_runner.specs.Moves.{Answers, Asks, DrawsNear, Enqueues, Fails, Finishes, Flushes, Hears, MayAnswer, MayHear, MayTake, MayWrite, PutsOut, Reads, Takes, Writes, fails, finishes_by, settles, settles_by, takes_chunk, transforms_by, writes_by};
+ghost use Rattle.ws_runner.specs.Moves.{Answers, Asks, DrawsNear, Enqueues, Fails, Finishes, Flushes, MayAnswer, MayTake, PutsOut, Reads, Takes, Writes, fails, finishes_by, is_sink, settles, settles_by, takes_chunk, transforms_by, writes_by};
 ghost use Rattle.ws_runner.specs.Node.{is_busy, is_reached, stage_of};
 ghost use Rattle.ws_runner.specs.Past.{Driven, HasCounts};
-ghost use Rattle.ws_runner.specs.Turns.{Follows, HasHeard, IsBegun, NoneHeard};
+ghost use Rattle.ws_runner.specs.Turns.{Follows, HasHeard, IsBegun, NoneHeard, SameEnds};
 ghost use Rattle.ws_runner.specs.Went.{Went};
 
-use crate::node::{Abort, Exit, Input, Node, Output};
+use crate::node::{Abort, Entrance, Exit, Input, Node, Output};
 use std::alloc::Global;
 use ws_io::{Failed, Sink, Source, write_whole};
 use ws_realm::{Answer, Call, Chunk, Event, Fault, HostId, NoMemory, Plain, StreamId, Value, Why};
@@ -75,7 +76,9 @@ impl Node {
             (moment (S.faults input.old) (S.feed input.old) (K.faults output.old) (K.finished output.old))
             (moment (S.faults input.new) (S.feed input.new) (K.faults output.new) (K.finished output.new))
             (K.got output.old) (K.got output.new) }
-        ensures begun { is_busy self.old.core ≡ true → self.new.core.stopped ≡ None → IsBegun self.old self.new }
+        ensures begun { is_busy self.old.core ≡ true → self.new.core.stopped ≡ None
+            → IsBegun self.old self.new }
+        ensures idle { is_busy self.old.core ≡ false → SameEnds self.old self.new }
     {
         // the first round stands apart, since it tells what the turn began with
         let mut jobs = self.work(JOBS_OF_A_TURN);
@@ -102,6 +105,7 @@ impl Node {
         ensures follows { Follows self.old self.new }
         ensures heard { result ≡ true → HasHeard self.old self.new }
         ensures none { result ≡ false → self.new.core.stopped ≡ None → NoneHeard self.old }
+        ensures ends { result ≡ false → SameEnds self.old self.new }
     {
         if self.core.stopped.is_some() {
             return false;
@@ -114,7 +118,7 @@ impl Node {
         true
     }
 
-    /// Does what an event asks.
+    /// Does what an event asks; what a port posted waits at its end.
     fn hear_of<K: Sink>(&mut self, event: Event, output: &mut K)
         requires { MayHear self.old event }
         ensures { Hears event self.old self.new
@@ -124,8 +128,9 @@ impl Node {
     {
         match event {
             Event::Host { id, call } => self.answer(id, call, output),
+            Event::Post { port, message } => self.wait(port, message),
             Event::Settled(_) => {}
-            Event::Signal { .. } | Event::Post { .. } => {}
+            Event::Signal { .. } => {}
         }
     }
 
@@ -239,7 +244,7 @@ impl Node {
             return;
         }
         if place == 0 {
-            self.entrance.ahead -= chunk.len() as u64;
+            self.entrance.had(chunk.len());
         }
         let pushed = work.push(chunk);
         self.put_out(id, stream, pushed)
@@ -288,12 +293,12 @@ impl Node {
 
     /// What was asked of a stage is done, or has failed by its ending.
     fn settle_by(&mut self, id: HostId, stream: StreamId, ending: Ending)
-        ensures { Asks (settles_by id stream ending) self.old self.new }
+        ensures { Asks (settles_by self.old.core.first id stream ending) self.old self.new }
     {
         match ending {
             Ending::Fine => self.settle(id),
             Ending::Bad { code, place } => {
-                let index = stage_of(stream);
+                let index = u32::from(self.core.first) + stage_of(stream);
                 self.fail(id, Fault::Stage { index, code, place })
             }
         }
@@ -301,11 +306,10 @@ impl Node {
 
     /// A chunk of the sink is written to the output.
     fn write<K: Sink>(&mut self, id: HostId, stream: StreamId, value: Value, output: &mut K)
-        requires { MayAnswer self.old (host_call.Write stream value) }
         ensures { writes_by id value self.old self.new
             (record { faults = K.faults output.old; finished = K.finished output.old })
             (record { faults = K.faults output.new; finished = K.finished output.new })
-            (K.got output.old) (K.got output.new) (is_same self.old.exit.sink stream) }
+            (K.got output.old) (K.got output.new) (is_sink self.old.exit stream) }
     {
         if !self.exit.is_sink(stream) {
             return self.settle(id);
@@ -319,7 +323,6 @@ impl Node {
     /// Writes a chunk whole. An output that was finished or has failed takes no more, nor does one that has all bytes
     /// before the abort.
     fn write_chunk<K: Sink>(&mut self, id: HostId, chunk: &Chunk, output: &mut K)
-        requires { MayWrite chunk.now self.old }
         ensures { Writes id chunk.now self.old self.new
             (record { faults = K.faults output.old; finished = K.finished output.old })
             (record { faults = K.faults output.new; finished = K.finished output.new })
@@ -334,11 +337,10 @@ impl Node {
         }
         match write_whole(output, chunk.as_slice()) {
             Ok(()) => {
-                let count = chunk.len() as u64;
                 if self.core.stages.is_empty() {
-                    self.entrance.ahead -= count;
+                    self.entrance.had(chunk.len());
                 }
-                self.draw_near(count);
+                self.draw_near(chunk.len() as u64);
                 self.settle(id)
             }
             Err(Failed) => self.fail_output(id),
@@ -364,7 +366,7 @@ impl Node {
         ensures { finishes_by id self.old self.new
             (record { faults = K.faults output.old; finished = K.finished output.old })
             (record { faults = K.faults output.new; finished = K.finished output.new })
-            (K.got output.old) (K.got output.new) (is_same self.old.exit.sink stream) }
+            (K.got output.old) (K.got output.new) (is_sink self.old.exit stream) }
     {
         if !self.exit.is_sink(stream) {
             return self.settle(id);
@@ -400,11 +402,24 @@ impl Node {
     }
 }
 
-impl Exit {
-    fn is_sink(&self, stream: StreamId) -> bool
-        ensures { result ≡ is_same self.now.sink stream }
+impl Entrance {
+    /// So many bytes more of what was read were had.
+    pub(crate) fn had(&mut self, count: usize)
+        ensures { self.new ≡ record self.old { ahead = self.old.ahead - count } }
     {
-        self.sink.0 == stream.0
+        self.ahead = self.ahead.saturating_sub(count as u64);
+    }
+}
+
+impl Exit {
+    /// Whether this is the stream that feeds the output. A node that feeds an edge has none.
+    fn is_sink(&self, stream: StreamId) -> bool
+        ensures { result ≡ is_sink self.now stream }
+    {
+        match self.output {
+            Output::Edge => false,
+            _ => self.sink.0 == stream.0,
+        }
     }
 
     /// Whether the output has all bytes before the abort.

@@ -1,4 +1,4 @@
-//! What holds of every node, told of its definitions alone.
+//! What holds of every whole node, that of a plan without workers, told of its definitions alone.
 ghost use Rattle.ws_runner.specs.Flow.{EachGoesOn, EachNodeKeepsFlow};
 ghost use Rattle.ws_runner.specs.Sound.{EachSoundNodeIsWhole};
 

@@ -1,21 +1,22 @@
-//! A node: the realm of a pipeline, from a source that the input feeds through the stages to a sink that feeds the
-//! output, and what its host knows of these.
-ghost use Rattle.std.specs.Prelude.{◌≡◌, ◌↔◌, ◌≤◌, ◌<◌, true, Err, IfOk, OnErr, OnOk, None, Some};
+//! A node: a realm, from a source that the input or an edge feeds through the stages to a sink that feeds the output
+//! or an edge, and what its host knows of these.
+ghost use Rattle.std.specs.Prelude.{◌≡◌, ◌↔◌, ◌≤◌, ◌<◌, true, false, Err, IfOk, OnErr, OnOk, None, Some};
 ghost use Rattle.ws_realm.specs.Seen.{oldest, outcome_named};
 ghost use Rattle.ws_realm.specs.declared.realm.Why.TheVariants as why;
 ghost use Rattle.ws_steps.specs.Run as steps;
-ghost use Rattle.ws_runner.specs.Ends.{EndsAs, IsNamed, status_of, unless_finished};
+ghost use Rattle.ws_runner.specs.Ends.{EndsAs, status_of, unless_finished};
 ghost use Rattle.ws_runner.specs.Moves.{Asks, IsDoneBy, Works, fault_of, is_readable, is_writable, settles, shut};
-ghost use Rattle.ws_runner.specs.Node.{has_ended, has_settled, is_busy, outcome_of_pipe};
+ghost use Rattle.ws_runner.specs.Node.{feeds_edge, has_ended, has_settled, is_busy, outcome_of_pipe};
 ghost use Rattle.ws_runner.specs.Past.{Driven};
-ghost use Rattle.ws_steps.specs.declared.calls.Call.TheVariants.{Enqueue};
+ghost use Rattle.ws_steps.specs.declared.calls.Call.TheVariants.{Deliver, Enqueue};
 ghost use Rattle.ws_value.specs.declared.value.Value.TheVariants.{Bytes};
 ghost use Rattle.ws_runner.specs.Turns.{HasWorked};
 
+use ws_edge::End;
 use ws_io::Status;
 use ws_realm::{
-    Call, Chunk, Fault, HostId, Outcome, Plain, PromiseId, Realm, Reply, SignalId, StreamId, Value,
-    Why,
+    Call, Chunk, Fault, HostId, Message, Outcome, Plain, PortId, PromiseId, Realm, Reply, SignalId,
+    StreamId, Value, Why,
 };
 use ws_stages::Work;
 
@@ -30,6 +31,10 @@ pub enum Input {
     Failed,
     /// More was read than the run may take.
     TooLong,
+    /// There is none: chunks come over an edge, and no error has come by it.
+    Edge,
+    /// An error came over the edge, with this reason.
+    Broken(Plain),
 }
 
 /// What became of the output.
@@ -43,6 +48,8 @@ pub enum Output {
     Failed,
     /// More was to be written once the output had all bytes before the abort.
     Aborted,
+    /// There is none: chunks go out over an edge.
+    Edge,
 }
 
 /// The abort of a run after some bytes of output.
@@ -60,6 +67,8 @@ pub struct Core {
     pub realm: Realm,
     /// The stages, in order.
     pub stages: Vec<Work>,
+    /// How many stages are on the nodes before it.
+    pub first: u16,
     /// The promises of the pipes into the stages.
     pub pipes_before: Vec<PromiseId>,
     /// The promise of the pipe into the sink.
@@ -68,10 +77,11 @@ pub struct Core {
     pub stopped: Option<Why>,
 }
 
-/// Where a node is fed: the stream that the input feeds, and what was read.
+/// Where a node is fed: the stream that the input feeds, and what was read; or the end of the edge from the node above
+/// it, whose port is then port 0.
 #[derive(Drop)]
 pub struct Entrance {
-    /// The stream that the input feeds.
+    /// The stream that the input or the edge feeds.
     pub source: StreamId,
     /// The most bytes that the run may take.
     pub most: u64,
@@ -82,15 +92,18 @@ pub struct Entrance {
     /// The pull that isn't answered yet.
     pub asked: Option<HostId>,
     pub input: Input,
+    pub above: Option<End>,
 }
 
-/// Where a node feeds: the stream that feeds the output, and the abort.
+/// Where a node feeds: the stream that feeds the output, and the abort; or the end of the edge to the node below it,
+/// whose port is the next.
 #[derive(Drop)]
 pub struct Exit {
-    /// The stream that feeds the output.
+    /// The stream that feeds the output or the edge.
     pub sink: StreamId,
     pub abort: Option<Abort>,
     pub output: Output,
+    pub below: Option<End>,
 }
 
 /// The realm of a run, and what its host knows. The streams were made in order: the source, for each stage the two
@@ -162,6 +175,18 @@ impl Node {
         }
     }
 
+    /// Delivers a message to a port. A refusal stops the realm.
+    pub fn deliver(&mut self, port: PortId, message: Message)
+        ensures { Asks (Deliver port message) self.old self.new }
+    {
+        if self.core.stopped.is_some() {
+            return;
+        }
+        if let Err(why) = self.core.realm.deliver(port, message) {
+            self.core.stopped = Some(why);
+        }
+    }
+
     /// Enqueues a chunk. False says that the stream takes no more, or that the realm has stopped.
     pub fn enqueue(&mut self, stream: StreamId, chunk: Chunk) -> bool
         ensures asks { Asks (Enqueue stream (Bytes chunk)) self.old self.new }
@@ -216,7 +241,8 @@ impl Node {
 
     /// The status that follows from how the pipe into the sink settled, and with 0 from an output that was finished.
     pub fn status(&self) -> Option<Status>
-        requires { Driven self.now }
+        requires driven { Driven self.now }
+        requires sunk { feeds_edge self.now.exit.output ≡ false }
         ensures { EndsAs result self.now }
     {
         match self.outcome() {
@@ -244,6 +270,7 @@ impl Exit {
             Output::Open => status,
             Output::Failed => status,
             Output::Aborted => status,
+            Output::Edge => status,
         }
     }
 }
@@ -258,6 +285,8 @@ impl Input {
             Input::Ended => false,
             Input::Failed => false,
             Input::TooLong => false,
+            Input::Edge => false,
+            Input::Broken(_) => false,
         }
     }
 }
@@ -272,6 +301,7 @@ impl Output {
             Output::Finished => false,
             Output::Failed => false,
             Output::Aborted => false,
+            Output::Edge => false,
         }
     }
 
@@ -284,6 +314,7 @@ impl Output {
             Output::Finished => Fault::Write,
             Output::Failed => Fault::Write,
             Output::Aborted => Fault::Abort,
+            Output::Edge => Fault::Write,
         }
     }
 
@@ -296,13 +327,13 @@ impl Output {
             Output::Finished => Output::Finished,
             Output::Failed => Output::Failed,
             Output::Aborted => Output::Aborted,
+            Output::Edge => Output::Edge,
         }
     }
 }
 
-/// The status that a reason names with which the pipe was rejected.
+/// The status that a reason names with which the pipe was rejected: want of memory where it names none of the others.
 fn status_of(reason: Plain) -> Status
-    requires { IsNamed reason }
     ensures { result ≡ status_of reason }
 {
     match reason {
@@ -311,7 +342,7 @@ fn status_of(reason: Plain) -> Status
         Plain::Fault(Fault::Read) => Status::ReadFault,
         Plain::Fault(Fault::Write) => Status::WriteFault,
         Plain::Fault(Fault::TooMuch) => Status::TooMuch,
-        _ => unreachable!(),
+        _ => Status::NoMemory,
     }
 }
 

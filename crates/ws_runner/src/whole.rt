@@ -4,15 +4,17 @@ ghost use Rattle.ws_io.specs.Moment.{moment};
 ghost use Rattle.ws_runner.specs.Ends.{EndsAs};
 ghost use Rattle.ws_runner.specs.Opening.{IsAccepted};
 ghost use Rattle.ws_runner.specs.Past.{HasCounts, IsNew};
+ghost use Rattle.ws_runner.specs.Shares.{whole_of};
 ghost use Rattle.ws_runner.specs.Turns.{TurnIs};
 ghost use Rattle.ws_runner.specs.Went.{Went};
 
+use crate::making::Share;
 use crate::node::Node;
 use crate::turn::Turn;
 use std::alloc::Global;
 use std::marker::Model;
 use ws_io::{Sink, Source, Status};
-use ws_realm::{NoMemory, Why};
+use ws_realm::NoMemory;
 use ws_stages::Plan;
 
 /// The one node of a run: a realm with all streams and pipes of the plan, from the input to the output. It holds
@@ -23,24 +25,26 @@ pub struct Whole {
 }
 
 impl Model for Whole {
+    ghost use Rattle.std.specs.Prelude.{◌≡◌, false};
     ghost use Rattle.ws_runner.specs.declared.node.Node.{Node};
+    ghost use Rattle.ws_runner.specs.Node.{feeds_edge};
     ghost use Rattle.ws_runner.specs.Past.{Driven};
 
     ghost Value = { Node };
 
     ghost view = { λ w. w.node };
 
-    ghost invariant = { λ w. Driven w.node };
+    ghost invariant = { λ w. Driven w.node × (feeds_edge w.node.exit.output ≡ false) };
 }
 
 impl Whole {
     /// A node of a run of this plan.
     pub fn make(alloc: Global, plan: &Plan) -> Result<Whole, NoMemory>
         requires { IsAccepted plan.now }
-        ensures { IfOk result (IsNew plan.now) }
+        ensures { IfOk result (IsNew (whole_of plan.now) 0 plan.now.abort_after) }
     {
         Ok(Whole {
-            node: Node::make(alloc, plan)?,
+            node: Node::make(alloc, plan, Share::All, 0, None, None)?,
         })
     }
 
@@ -53,21 +57,7 @@ impl Whole {
         ensures turn { TurnIs result self.old self.new }
         ensures counts { HasCounts self.new.entrance }
     {
-        let busy = self.node.core.is_busy();
-        self.node.go_on(alloc, input, output);
-        match self.node.core.stopped {
-            Some(Why::NoMemory) => Turn::NoMemory,
-            Some(Why::Spent) => Turn::Spent,
-            None => {
-                if self.node.core.has_ended() {
-                    Turn::Ended
-                } else if busy {
-                    Turn::Worked
-                } else {
-                    Turn::Idle
-                }
-            }
-        }
+        self.node.turn(alloc, input, output)
     }
 
     /// How the run ends, by how its pipe into the sink settled: none says that it is pending, and that memory wasn't

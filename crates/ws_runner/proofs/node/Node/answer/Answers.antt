@@ -1,3 +1,4 @@
+use Rattle.std.proofs.Common.{◌∙◌}
 use Rattle.ws_runner.proofs.Asking.{answers-so, untouched}
 use Rattle.ws_runner.proofs.node.Node.answer.Goals as goal
 
@@ -24,3 +25,6 @@ returns-in-Flush g c =
 pub returns-in-CancelTransform : goal.returns-in-CancelTransform
 returns-in-CancelTransform g c =
     answers-so c.args.id c.args.call _ c.args.self.now c.settle-in-CancelTransform.new.self _ _ _ _ c.in-CancelTransform.is (c.settle-in-CancelTransform.ensures, untouched _ (g.K.Sink.got c.args.output.now))
+
+pub transform-requires : goal.transform-requires
+transform-requires g c i piece is = c.requires i piece (c.in-Transform.is ∙ is)

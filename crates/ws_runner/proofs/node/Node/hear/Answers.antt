@@ -27,9 +27,6 @@ returns-in_default-clause-went g c =
     (moment (g.S.Source.faults c.args.input.now) (g.S.Source.feed c.args.input.now) (g.K.Sink.faults c.args.output.now) (g.K.Sink.finished c.args.output.now)) (g.K.Sink.got c.args.output.now)
     c.requires.since (is_none_so c.args.self.now.core.stopped (sym c.is_some.ensures ∙ c.if-is_some.false)) (sym c.in_default.ensures.event) c.next_event.ensures.slots).went
 
-pub returns-in_default-clause-follows : goal.returns-in_default-clause-follows
-returns-in_default-clause-follows g c = record { entries = Heard ∷ []; slots = c.next_event.ensures.slots }
-
 pub hear_of-requires : goal.hear_of-requires
 hear_of-requires g c =
     may-hear c.requires.shape c.requires.past c.args.self.now c.next_event.new.self c.in-Some.event c.requires.since (is_none_so c.args.self.now.core.stopped (sym c.is_some.ensures ∙ c.if-is_some.false))
@@ -78,3 +75,6 @@ returns-clause-follows g c =
     (record { faults = g.K.Sink.faults c.hear_of.new.output; finished = g.K.Sink.finished c.hear_of.new.output }) (g.K.Sink.got c.args.output.now) (g.K.Sink.got c.hear_of.new.output)
     (g.S.Source.feed c.args.input.now) (g.S.Source.feed c.read.new.input) (g.S.Source.faults c.args.input.now) (g.S.Source.faults c.read.new.input)
     (is_none_so c.args.self.now.core.stopped (sym c.is_some.ensures ∙ c.if-is_some.false)) (sym c.in-Some.ensures.event) c.next_event.ensures.slots c.hear_of.ensures c.read.ensures).goes
+
+pub returns-in_default-clause-follows : goal.returns-in_default-clause-follows
+returns-in_default-clause-follows g c = record { entries = Heard ∷ []; slots = c.next_event.ensures.slots }

@@ -2,9 +2,10 @@ use Rattle.std.proofs.Common.{refl, sym, subst, arith, ap, ◌∙◌, ◌-◌, l
 use Rattle.std.specs.Vec.{with_item}
 use Rattle.ws_value.specs.declared.value.Value.{Value}
 use Rattle.ws_steps.specs.declared.calls.HostCall.TheVariants as host_call
+use Rattle.ws_runner.specs.declared.node.Entrance.{Entrance}
 use Rattle.ws_runner.specs.Moves.{NothingToPush, NotPushed, transforms_by}
 use Rattle.ws_runner.proofs.Asking.{settles-unless_bytes}
-use Rattle.ws_runner.proofs.Placing.{none-numbered, at-first, at-item, live-so, live-not, Had, FirstHad, OtherHad, has-pushed, unasked, pushed-by}
+use Rattle.ws_runner.proofs.Placing.{none-numbered, at-item, live-so, live-not, Had, FirstHad, OtherHad, has-pushed, unasked, pushed-by}
 use Rattle.ws_runner.proofs.node.Node.transform.Goals.{then-place-eq0, else-place-eq0}
 use Rattle.ws_runner.proofs.node.Node.transform.Goals as goal
 
@@ -23,34 +24,27 @@ returns-then-not-is_live c =
     (NotPushed _ _ s.work.now (at-item c.args.stream c.args.self.now.core.stages.items c.in-Some.place s.work.now c.in-Some.ensures s.ensures.item.3.0 s.ensures.value)
     (live-not s.work.now.work c.is_live.result c.is_live.ensures c.if-not-is_live.true) (unasked c.args.self.now c.in-Some.place s.work.now s.ensures.value))
 
-pub overflow_sub-self : goal.overflow_sub-self
-overflow_sub-self c =
-    let s = c.in-Some-get_mut in
-    let h = c.requires.had c.args.stream c.in-Bytes.chunk (ap (host_call.Transform c.args.stream) c.in-Bytes.is) _ s.work.now
-    (at-first c.args.stream c.args.self.now.core.stages.items c.in-Some.place s.work.now c.in-Some.ensures c.if-place-eq0.true s.ensures.item.3.0 s.ensures.value)
-    (live-so s.work.now.work c.is_live.result c.is_live.ensures c.if-not-is_live.false) in
-    omega (arith, h)
-
 pub push-pushed-requires-clause-count : goal.push-pushed-requires-clause-count
 push-pushed-requires-clause-count c =
     let s = c.in-Some-get_mut in
-    (c.requires.pushed c.args.stream c.in-Bytes.chunk (ap (host_call.Transform c.args.stream) c.in-Bytes.is) _ _ s.work.now
+    (c.requires c.args.stream c.in-Bytes.chunk (ap (host_call.Transform c.args.stream) c.in-Bytes.is) _ _ s.work.now
     (at-item c.args.stream c.args.self.now.core.stages.items c.in-Some.place s.work.now c.in-Some.ensures s.ensures.item.3.0 s.ensures.value)
     (live-so s.work.now.work c.is_live.result c.is_live.ensures c.if-not-is_live.false)).count
 
 pub push-pushed-requires-clause-length : goal.push-pushed-requires-clause-length
 push-pushed-requires-clause-length c =
     let s = c.in-Some-get_mut in
-    (c.requires.pushed c.args.stream c.in-Bytes.chunk (ap (host_call.Transform c.args.stream) c.in-Bytes.is) _ _ s.work.now
+    (c.requires c.args.stream c.in-Bytes.chunk (ap (host_call.Transform c.args.stream) c.in-Bytes.is) _ _ s.work.now
     (at-item c.args.stream c.args.self.now.core.stages.items c.in-Some.place s.work.now c.in-Some.ensures s.ensures.item.3.0 s.ensures.value)
     (live-so s.work.now.work c.is_live.result c.is_live.ensures c.if-not-is_live.false)).length_fits
 
 pub returns : goal.returns
 returns c =
     let s = c.in-Some-get_mut in
-    let had : Had c.in-Some.place (length c.in-Bytes.chunk) c.args.self.now.entrance c.if-place-eq0.self.1.1.0 = elim c.if-place-eq0.branch [
-      | then-place-eq0 w ↦ FirstHad w.if-place-eq0.true (ap (λ q. q.1.1.0) w.self-is ∙ ap (λ k. record c.args.self.now.entrance { ahead = c.args.self.now.entrance.ahead - k }) w.len.ensures)
-      | else-place-eq0 w ↦ OtherHad (λ e. absurd (omega arith)) (ap (λ q. q.1.1.0) w.self-is)
+    let e : Entrance = c.args.self.now.entrance in
+    let had : Had c.in-Some.place (length c.in-Bytes.chunk) e c.if-place-eq0.self.1.1.0 = elim c.if-place-eq0.branch [
+      | then-place-eq0 w ↦ FirstHad w.if-place-eq0.true (ap (λ q. q.1.1.0) w.self-is ∙ (w.had.ensures ∙ ap (λ k. record e { ahead = e.ahead - k }) w.len.ensures))
+      | else-place-eq0 w ↦ OtherHad (λ z. absurd (omega arith)) (ap (λ q. q.1.1.0) w.self-is)
     ] in
     subst (λ (value : Value). transforms_by c.args.id c.args.stream value c.args.self.now c.put_out.new.self) (sym c.in-Bytes.is)
     (pushed-by c.args.id c.args.stream c.in-Bytes.chunk c.args.self.now c.put_out.new.self _ _ _ s.work.now c.push-pushed.new.self c.push-pushed.result

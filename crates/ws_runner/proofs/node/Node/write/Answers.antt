@@ -1,6 +1,5 @@
 use Rattle.std.proofs.Common.{true}
-use Rattle.ws_steps.specs.Histories.{is_same}
-use Rattle.ws_runner.specs.Moves.{writes_by}
+use Rattle.ws_runner.specs.Moves.{is_sink, writes_by}
 use Rattle.ws_runner.proofs.Asking.{untouched, not_so, so, settles-other_stream, settles-plain, writes-so}
 use Rattle.ws_runner.proofs.node.Node.write.Goals as goal
 
@@ -17,5 +16,5 @@ returns-in-Bytes g c =
 
 pub returns-in-Plain : goal.returns-in-Plain
 returns-in-Plain g c =
-    writes-so c.args.id c.args.value _ (is_same c.args.self.now.exit.sink c.args.stream) c.args.self.now c.settle-in-Plain.new.self _ _ _ _ c.in-Plain.is
-    (settles-plain c.args.id c.in-Plain.field-0 (is_same c.args.self.now.exit.sink c.args.stream) _ _ _ _ _ _ (c.settle-in-Plain.ensures, untouched _ (g.K.Sink.got c.args.output.now)))
+    writes-so c.args.id c.args.value _ (is_sink c.args.self.now.exit c.args.stream) c.args.self.now c.settle-in-Plain.new.self _ _ _ _ c.in-Plain.is
+    (settles-plain c.args.id c.in-Plain.field-0 (is_sink c.args.self.now.exit c.args.stream) _ _ _ _ _ _ (c.settle-in-Plain.ensures, untouched _ (g.K.Sink.got c.args.output.now)))
