@@ -22,7 +22,7 @@ use Rattle.ws_flow.proofs.Through.{all_before}
 use Rattle.ws_flow.proofs.Told.{before_front, front_trans}
 use Rattle.ws_plan.specs.Answers.{planned_as}
 use Rattle.ws_plan.specs.Reading.{Planned}
-use Rattle.ws_runner.specs.Ends.{Allows, Ends, IsAborted, ReadAs, ending_of, out_of}
+use Rattle.ws_node.specs.Ends.{Allows, Ends, IsAborted, ReadAs, ending_of, out_of}
 use Rattle.ws_cli.specs.Check.{Shelf}
 use Rattle.ws_cli.specs.Planned.{Loads, IsFineFor, IsUnaborted, PerformsRun, Ran, HadNone}
 use Rattle.ws_cli.proofs.Copying.{fine_not_bad, not_both}

@@ -13,7 +13,7 @@ use Rattle.ws_flow.specs.Refusals.{refusal_number}
 use Rattle.ws_flow.specs.Told.{Closed}
 use Rattle.ws_plan.specs.Answers.{planned_as}
 use Rattle.ws_plan.specs.Reading.{reading}
-use Rattle.ws_runner.specs.Ends.{Ends, ending_of, out_of}
+use Rattle.ws_node.specs.Ends.{Ends, ending_of, out_of}
 use Rattle.ws_cli.specs.Check.{Shelf, HasText, LacksText, IsFirstRefusal, IsTooLong}
 
 -- a text is that of a plan, or refused by the number of its first refusal; memory may be wanting

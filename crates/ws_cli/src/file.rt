@@ -1,6 +1,6 @@
 //! A pipeline file as it is loaded: its plan, or the status of a command that has none.
 ghost use Rattle.std.specs.Prelude.{◌≡◌, IfOk};
-ghost use Rattle.ws_runner.specs.Opening.{IsAccepted};
+ghost use Rattle.ws_node.specs.Opening.{IsAccepted};
 ghost use Rattle.ws_cli.specs.Check.{shelf};
 ghost use Rattle.ws_cli.specs.Planned.{Loads, ReadsText};
 

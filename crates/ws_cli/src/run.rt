@@ -1,7 +1,7 @@
 //! The runs of a pipeline: that of a file, and that without stages.
 ghost use Rattle.std.specs.Prelude.{◌≡◌, ◌^◌};
 ghost use Rattle.ws_io.specs.Moment.{moment};
-ghost use Rattle.ws_runner.specs.Copies.{Copies};
+ghost use Rattle.ws_node.specs.Copies.{Copies};
 ghost use Rattle.ws_cli.specs.Check.{shelf};
 ghost use Rattle.ws_cli.specs.Planned.{PerformsRun};
 

@@ -1,19 +1,19 @@
 //! Runs of a plan.
 ghost use Rattle.std.specs.Prelude.{IfOk, None};
 ghost use Rattle.ws_io.specs.Moment.{moment};
-ghost use Rattle.ws_runner.specs.Ends.{Ends, EndsAs};
-ghost use Rattle.ws_runner.specs.Opening.{IsAccepted};
-ghost use Rattle.ws_runner.specs.Nodes.{MiddleGoes, TailGoes};
-ghost use Rattle.ws_runner.specs.Past.{HasCounts, IsNew};
-ghost use Rattle.ws_runner.specs.Shares.{whole_of};
-ghost use Rattle.ws_runner.specs.Turns.{TurnIs};
-ghost use Rattle.ws_runner.specs.Went.{Went};
+ghost use Rattle.ws_node.specs.Ends.{Ends, EndsAs};
+ghost use Rattle.ws_node.specs.Opening.{IsAccepted};
+ghost use Rattle.ws_node.specs.Nodes.{MiddleGoes, TailGoes};
+ghost use Rattle.ws_node.specs.Past.{HasCounts, IsNew};
+ghost use Rattle.ws_node.specs.Shares.{whole_of};
+ghost use Rattle.ws_node.specs.Turns.{TurnIs};
+ghost use Rattle.ws_node.specs.Went.{Went};
 
 use std::alloc::Global;
 use std::sync::Wait;
 use ws_io::{Sink, Source, Status};
+use ws_node::{Middle, Tail, Turn, Whole};
 use ws_realm::NoMemory;
-use ws_runner::{Middle, Tail, Turn, Whole};
 use ws_stages::Plan;
 
 /// Runs a plan.

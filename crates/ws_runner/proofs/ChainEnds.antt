@@ -34,25 +34,25 @@ use Rattle.ws_joined_laws.specs.Reasons.{reasons_in, HasCause, Own as OwnCause, 
 use Rattle.ws_joined_laws.specs.RunEnds as run_ends
 use Rattle.ws_joined_laws.specs.RunEnds.{Pipeline, EndsSo, FindsSo, HeadTells, TailTells, RunTells, IsStatus, Complete, Rejected, Wanting}
 use Rattle.ws_joined_laws.proofs.RunEnds.{each-run-tells-its-end}
-use Rattle.ws_runner.specs.declared.making.Share.TheVariants.{Of, None as NoneOfThem}
-use Rattle.ws_runner.specs.declared.node.Abort.{Abort}
-use Rattle.ws_runner.specs.declared.node.Input.{Input}
-use Rattle.ws_runner.specs.declared.node.Input.TheVariants as input
-use Rattle.ws_runner.specs.declared.node.Node.{Node}
-use Rattle.ws_runner.specs.declared.node.Output.{Output}
-use Rattle.ws_runner.specs.declared.node.Output.TheVariants as output
+use Rattle.ws_node.specs.declared.making.Share.TheVariants.{Of, None as NoneOfThem}
+use Rattle.ws_node.specs.declared.node.Abort.{Abort}
+use Rattle.ws_node.specs.declared.node.Input.{Input}
+use Rattle.ws_node.specs.declared.node.Input.TheVariants as input
+use Rattle.ws_node.specs.declared.node.Node.{Node}
+use Rattle.ws_node.specs.declared.node.Output.{Output}
+use Rattle.ws_node.specs.declared.node.Output.TheVariants as output
 use Rattle.ws_runner.specs.Chain.{HasEnded, EachChainEnds}
-use Rattle.ws_runner.specs.Rules.{EachNodeSendsDown}
-use Rattle.ws_runner.specs.Ends.{IsReadToEnd, ReadAs, IsDone, IsBad, IsAborted, IsWithinAbort, Allows, Leaves, Ends, EndsAs, EndsBy, EndedBy, Own, Passed, status_of}
-use Rattle.ws_runner.specs.Messages.{fairly}
-use Rattle.ws_runner.specs.Node.{feeds_edge, held, is_edge, is_reached, nothing_yet, parts, received_at, sent_at}
-use Rattle.ws_runner.specs.Nodes.{Each, HaveMet, AllHaveMet, AreNewFrom, AreNew, AllGo, HeadGoes, MiddleGoes, TailGoes, Nodes, of_input, of_output, of_neither, any_bytes}
-use Rattle.ws_runner.specs.Opening.{abort_of}
-use Rattle.ws_runner.specs.Past.{Counts, Driven, HasCounts, IsNew}
-use Rattle.ws_runner.specs.Shares.{head_of, is_in, middle_of, shared, stages_ahead_of, tail_of}
-use Rattle.ws_runner.specs.Went.{AbortGoes, broken_by, EdgeGoes, FromGoes, InputGoes, OutputGoes, PostsOn, TakesOn, ToGoes, Went}
-use Rattle.ws_runner.proofs.Passing.{Inside, Between, first_node, node_between, last_node, nodes_on, SendsFairly, Starts, Passes, Stops, PassOn, tell}
-use Rattle.ws_runner.proofs.SinceNew.{finds_of, inside_of, failed-is, long-is, write-is, edge-unfailed, edge-short, own-stage, has_failed, is_too_long, is_failed, passed-on, sends-fairly, by-input, by-edge, to-output, to-edge, flows-since, first-since, went-since, came-since}
+use Rattle.ws_node.specs.Rules.{EachNodeSendsDown}
+use Rattle.ws_node.specs.Ends.{IsReadToEnd, ReadAs, IsDone, IsBad, IsAborted, IsWithinAbort, Allows, Leaves, Ends, EndsAs, EndsBy, EndedBy, Own, Passed, status_of}
+use Rattle.ws_node.specs.Messages.{fairly}
+use Rattle.ws_node.specs.Node.{feeds_edge, held, is_edge, is_reached, nothing_yet, parts, received_at, sent_at}
+use Rattle.ws_node.specs.Nodes.{Each, HaveMet, AllHaveMet, AreNewFrom, AreNew, AllGo, HeadGoes, MiddleGoes, TailGoes, Nodes, of_input, of_output, of_neither, any_bytes}
+use Rattle.ws_node.specs.Opening.{abort_of}
+use Rattle.ws_node.specs.Past.{Counts, Driven, HasCounts, IsNew}
+use Rattle.ws_node.specs.Shares.{head_of, is_in, middle_of, shared, stages_ahead_of, tail_of}
+use Rattle.ws_node.specs.Went.{AbortGoes, broken_by, EdgeGoes, FromGoes, InputGoes, OutputGoes, PostsOn, TakesOn, ToGoes, Went}
+use Rattle.ws_node.proofs.Passing.{Inside, Between, first_node, node_between, last_node, nodes_on, SendsFairly, Starts, Passes, Stops, PassOn, tell}
+use Rattle.ws_node.proofs.SinceNew.{finds_of, inside_of, failed-is, long-is, write-is, edge-unfailed, edge-short, own-stage, has_failed, is_too_long, is_failed, passed-on, sends-fairly, by-input, by-edge, to-output, to-edge, flows-since, first-since, went-since, came-since}
 use Rattle.ws_runner.proofs.Workers.{ArePlaced, accepted-placed, ahead_in, ahead-next, all-ahead, none-ahead, some-stages, stages_from, workers-stages}
 
 abbrev pipeline_of : Plan → Pipeline

@@ -11,8 +11,8 @@ use Rattle.ws_flow.specs.declared.plan.Stage.{Stage}
 use Rattle.ws_flow.specs.Laws.{IsAccepted}
 use Rattle.ws_flow.specs.Plans.{stages_of, is_placed_within, are_in_order, each_has_stage, is_abort_within}
 use Rattle.ws_flow.specs.Stages.{is_in_range, is_within}
-use Rattle.ws_runner.specs.declared.making.Share.TheVariants.{Of}
-use Rattle.ws_runner.specs.Shares.{is_ahead_of, is_in, shared}
+use Rattle.ws_node.specs.declared.making.Share.TheVariants.{Of}
+use Rattle.ws_node.specs.Shares.{is_ahead_of, is_in, shared}
 
 abbrev is_on : ℤ → Placed → Bool
 is_on worker p = is_in (Of worker) p

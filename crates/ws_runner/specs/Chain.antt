@@ -3,10 +3,10 @@ use Rattle.std.specs.Prelude.{◌≡◌, ℕ, pos, int_le, false, List, Some}
 use Rattle.ws_flow.specs.declared.plan.Plan.{Plan}
 use Rattle.ws_io.specs.Moment.{Moment}
 use Rattle.ws_io.specs.declared.status.Status.{Status}
-use Rattle.ws_runner.specs.Ends.{Ends, EndsAs}
-use Rattle.ws_runner.specs.Nodes.{AllGo, AllHaveMet, AreNew, Nodes}
-use Rattle.ws_runner.specs.Opening.{IsAccepted}
-use Rattle.ws_runner.specs.Past.{Driven}
+use Rattle.ws_node.specs.Ends.{Ends, EndsAs}
+use Rattle.ws_node.specs.Nodes.{AllGo, AllHaveMet, AreNew, Nodes}
+use Rattle.ws_node.specs.Opening.{IsAccepted}
+use Rattle.ws_node.specs.Past.{Driven}
 
 -- the nodes of a run, from their making to its end, and its status
 pub record HasEnded (plan : Plan) (status : Status) (a b : Nodes) (old new : Moment) (got got' : List ℕ → Type 0) : Type 0 where

@@ -2,19 +2,16 @@
 ghost use Rattle.std.specs.Prelude.{◌≡◌, ◌+◌, IfOk, Option, Some, length, nat_abs};
 ghost use Rattle.ws_io.specs.Moment.{moment};
 ghost use Rattle.ws_edge.specs.Edge.{AtEdge};
-ghost use Rattle.ws_runner.specs.Ends.{Ends, EndsAs};
-ghost use Rattle.ws_runner.specs.Nodes.{AllGo, AllHaveMet, AreEnds, AreJoined, AreNew, AreNewFrom, Each, HaveMet, JoinedAt, MiddleGoes, nodes};
-ghost use Rattle.ws_runner.specs.Opening.{IsAccepted};
-ghost use Rattle.ws_runner.specs.Past.{Driven, IsUnused};
+ghost use Rattle.ws_node.specs.Ends.{Ends, EndsAs};
+ghost use Rattle.ws_node.specs.Nodes.{AllGo, AllHaveMet, AreEnds, AreJoined, AreNew, AreNewFrom, Each, HaveMet, JoinedAt, MiddleGoes, nodes};
+ghost use Rattle.ws_node.specs.Opening.{IsAccepted};
+ghost use Rattle.ws_node.specs.Past.{Driven, IsUnused};
 
-use crate::head::Head;
-use crate::middle::Middle;
-use crate::tail::Tail;
-use crate::turn::Turn;
 use std::alloc::Global;
 use std::sync::{Wait, WaitMethods};
 use ws_edge::End;
 use ws_io::{Sink, Source, Status};
+use ws_node::{Head, Middle, Tail, Turn};
 use ws_port::{meet, pair};
 use ws_realm::NoMemory;
 use ws_stages::Plan;

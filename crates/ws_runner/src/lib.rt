@@ -1,25 +1,7 @@
-//! A run: its nodes, each the streams of one realm and their host, which reads the input, asks the stages, writes the
-//! output, or sends and takes messages over the edges between nodes.
+//! A run: its nodes, the edges between them, and what drives them.
 #![tactic(auto)]
 
 mod chain;
-mod edges;
-mod ends;
-mod head;
-mod host;
-pub mod laws;
-mod making;
-mod middle;
-mod node;
 mod nodes;
-pub mod rules;
-mod tail;
-mod turn;
-mod whole;
 
-pub use head::Head;
-pub use middle::Middle;
 pub use nodes::run_nodes;
-pub use tail::Tail;
-pub use turn::Turn;
-pub use whole::Whole;

@@ -1,15 +1,14 @@
 //! A run of a plan, from the making of its nodes to its status.
 ghost use Rattle.std.specs.Prelude.{◌≡◌, ◌<◌, ◌^◌, false, int_le, pos};
 ghost use Rattle.ws_io.specs.Moment.{moment};
-ghost use Rattle.ws_runner.specs.Ends.{Ends};
-ghost use Rattle.ws_runner.specs.Opening.{IsAccepted};
+ghost use Rattle.ws_node.specs.Ends.{Ends};
+ghost use Rattle.ws_node.specs.Opening.{IsAccepted};
 
 use crate::chain::Chain;
-use crate::turn::Turn;
-use crate::whole::Whole;
 use std::alloc::Global;
 use std::sync::{Wait, WaitMethods};
 use ws_io::{Sink, Source, Status};
+use ws_node::{Turn, Whole};
 use ws_stages::Plan;
 
 /// Runs a plan: what its stages make of the input is written to the output, which is then finished. Without stages at

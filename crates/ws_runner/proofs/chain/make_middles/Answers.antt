@@ -1,9 +1,9 @@
 use Rattle.std.proofs.Common.{◌≡◌, w64, to_z, of_z, nat_abs, ◌+◌, List, None, sym, ap, subst, arith, rules}
 use Rattle.std.proofs.lemmas.Int.{to_z_pos}
-use Rattle.ws_runner.specs.declared.node.Node.{Node}
-use Rattle.ws_runner.specs.Past.{IsNew}
-use Rattle.ws_runner.specs.Shares.{middle_of, stages_ahead_of}
-use Rattle.ws_runner.proofs.Joining.{HasMade, few-workers, made-more}
+use Rattle.ws_node.specs.declared.node.Node.{Node}
+use Rattle.ws_node.specs.Past.{IsNew}
+use Rattle.ws_node.specs.Shares.{middle_of, stages_ahead_of}
+use Rattle.ws_node.proofs.Joining.{HasMade, few-workers, made-more}
 use Rattle.ws_runner.proofs.chain.make_middles.Goals as goal
 
 pub loop-number-preserved : goal.loop-number-preserved

@@ -1,4 +1,4 @@
-use Rattle.ws_runner.proofs.Joining.{HasMade}
+use Rattle.ws_node.proofs.Joining.{HasMade}
 use Rattle.ws_runner.proofs.chain.make_middles.Given as goal
 
 abbrev pub invariant-loop-number : goal.invariant-loop-number

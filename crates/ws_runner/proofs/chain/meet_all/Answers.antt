@@ -1,8 +1,8 @@
 use Rattle.std.proofs.Common.{◌≡◌, List, [], ◌∷◌, ◌++◌, Some, refl, sym, ap, ◌∙◌, subst, append_assoc}
 use Rattle.std.specs.Vec.Iter.{into_iter_items}
-use Rattle.ws_runner.specs.declared.node.Node.{Node}
-use Rattle.ws_runner.specs.Nodes.{AllHaveMet, AreJoined, HaveMet, HaveMetUpTo, JoinedAt}
-use Rattle.ws_runner.proofs.Joining.{met-all, met-snoc, none-left, joined-none}
+use Rattle.ws_node.specs.declared.node.Node.{Node}
+use Rattle.ws_node.specs.Nodes.{AllHaveMet, AreJoined, HaveMet, HaveMetUpTo, JoinedAt}
+use Rattle.ws_node.proofs.Joining.{met-all, met-snoc, none-left, joined-none}
 use Rattle.ws_runner.proofs.chain.meet_all.Goals as goal
 
 pub loop-middle-init : goal.loop-middle-init

@@ -1,7 +1,7 @@
 use Rattle.std.specs.Prelude.{◌≡◌, List, ◌++◌, Some}
 use Rattle.std.specs.Vec.Iter.{into_iter_items}
-use Rattle.ws_runner.specs.declared.node.Node.{Node}
-use Rattle.ws_runner.specs.Nodes.{AreJoined, HaveMetUpTo}
+use Rattle.ws_node.specs.declared.node.Node.{Node}
+use Rattle.ws_node.specs.Nodes.{AreJoined, HaveMetUpTo}
 use Rattle.ws_runner.proofs.chain.meet_all.Given as goal
 
 abbrev pub invariant-loop-middle : goal.invariant-loop-middle

@@ -1,4 +1,4 @@
-use Rattle.ws_runner.proofs.Joining.{each-same, each-set}
+use Rattle.ws_node.proofs.Joining.{each-same, each-set}
 use Rattle.ws_runner.proofs.chain.turn_all.Goals as goal
 
 pub loop-i-init : goal.loop-i-init

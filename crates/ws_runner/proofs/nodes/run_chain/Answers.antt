@@ -1,9 +1,9 @@
 use Rattle.ws_io.specs.Moment.{moment}
-use Rattle.ws_runner.specs.Nodes.{nodes}
-use Rattle.ws_runner.proofs.AtOnce.{ends-at_once}
-use Rattle.ws_runner.proofs.Causes.{each_node_sends_down}
+use Rattle.ws_node.specs.Nodes.{nodes}
+use Rattle.ws_node.proofs.AtOnce.{ends-at_once}
+use Rattle.ws_node.proofs.Causes.{each_node_sends_down}
 use Rattle.ws_runner.proofs.ChainEnds.{chain-ends}
-use Rattle.ws_runner.proofs.Joining.{joined-at-end}
+use Rattle.ws_node.proofs.Joining.{joined-at-end}
 use Rattle.ws_runner.proofs.nodes.run_chain.Goals as goal
 
 pub returns-in_default : goal.returns-in_default

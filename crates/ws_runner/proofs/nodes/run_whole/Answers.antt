@@ -2,10 +2,10 @@ use Rattle.std.proofs.Common.{subst}
 use Rattle.std.specs.Prelude.{Option}
 use Rattle.ws_io.specs.Moment.{moment}
 use Rattle.ws_io.specs.declared.status.Status.{Status}
-use Rattle.ws_runner.specs.Ends.{EndsAs}
-use Rattle.ws_runner.proofs.AtOnce.{ends-at_once}
-use Rattle.ws_runner.proofs.Finish.{ends-from}
-use Rattle.ws_runner.proofs.Going.{went-same, went-then}
+use Rattle.ws_node.specs.Ends.{EndsAs}
+use Rattle.ws_node.proofs.AtOnce.{ends-at_once}
+use Rattle.ws_node.proofs.Finish.{ends-from}
+use Rattle.ws_node.proofs.Going.{went-same, went-then}
 use Rattle.ws_runner.proofs.nodes.run_whole.Goals as goal
 
 pub returns-in_default : goal.returns-in_default

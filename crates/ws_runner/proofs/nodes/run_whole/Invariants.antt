@@ -1,7 +1,7 @@
 use Rattle.ws_io.specs.Moment.{moment}
-use Rattle.ws_runner.specs.Past.{IsNew}
-use Rattle.ws_runner.specs.Shares.{whole_of}
-use Rattle.ws_runner.specs.Went.{Went}
+use Rattle.ws_node.specs.Past.{IsNew}
+use Rattle.ws_node.specs.Shares.{whole_of}
+use Rattle.ws_node.specs.Went.{Went}
 use Rattle.ws_runner.proofs.nodes.run_whole.Given as goal
 
 abbrev pub invariant-loop : goal.invariant-loop

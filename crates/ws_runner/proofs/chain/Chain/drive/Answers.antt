@@ -1,6 +1,6 @@
 use Rattle.ws_io.specs.Moment.{moment}
-use Rattle.ws_runner.specs.Nodes.{nodes}
-use Rattle.ws_runner.proofs.Joining.{all-same, all-then}
+use Rattle.ws_node.specs.Nodes.{nodes}
+use Rattle.ws_node.proofs.Joining.{all-same, all-then}
 use Rattle.ws_runner.proofs.chain.Chain.drive.Goals as goal
 
 pub loop-init : goal.loop-init

@@ -1,5 +1,5 @@
 use Rattle.ws_io.specs.Moment.{moment}
-use Rattle.ws_runner.specs.Nodes.{AllGo, nodes}
+use Rattle.ws_node.specs.Nodes.{AllGo, nodes}
 use Rattle.ws_runner.proofs.chain.Chain.drive.Given as goal
 
 abbrev pub invariant-loop : goal.invariant-loop

@@ -1,0 +1,47 @@
+use Rattle.std.proofs.Common.{arith}
+use Rattle.ws_node.proofs.Begun.{begun, begun-then, first, follows-then, works-follow}
+use Rattle.ws_node.proofs.Going.{went-then}
+use Rattle.ws_node.proofs.Worked.{works-driven, works-went}
+use Rattle.ws_node.proofs.node.Node.go_on.Goals as goal
+
+pub hear-requires : goal.hear-requires
+hear-requires g c = works-driven c.args.self.now c.work-jobs.new.self c.requires c.work-jobs.ensures.works
+
+pub returns-then-not-hear-clause-went : goal.returns-then-not-hear-clause-went
+returns-then-not-hear-clause-went g c =
+    went-then c.args.self.now c.work-jobs.new.self c.hear.new.self _ _ _ _ _ _ (works-went c.args.self.now c.work-jobs.new.self _ _ c.requires c.work-jobs.ensures.works) c.hear.ensures.went
+
+pub returns-then-not-hear-clause-begun : goal.returns-then-not-hear-clause-begun
+returns-then-not-hear-clause-begun g c =
+    λ busy goes. first c.args.self.now c.work-jobs.new.self c.hear.new.self (c.work-jobs.ensures.worked (omega arith)) c.hear.ensures.follows (c.hear.ensures.none c.if-not-hear.true goes) busy
+
+pub loop-init : goal.loop-init
+loop-init g c = (
+  c.hear.ensures.driven,
+  went-then c.args.self.now c.work-jobs.new.self c.hear.new.self _ _ _ _ _ _ (works-went c.args.self.now c.work-jobs.new.self _ _ c.requires c.work-jobs.ensures.works) c.hear.ensures.went,
+  begun c.args.self.now c.work-jobs.new.self c.hear.new.self (c.work-jobs.ensures.worked (omega arith)) (c.hear.ensures.heard c.if-not-hear.false),
+)
+
+pub hear-requires-in-loop : goal.hear-requires-in-loop
+hear-requires-in-loop g c = works-driven c.loop.self c.work-jobs-in-loop.new.self c.loop.invariant.0 c.work-jobs-in-loop.ensures.works
+
+pub returns-then-not-hear-2-clause-went : goal.returns-then-not-hear-2-clause-went
+returns-then-not-hear-2-clause-went g c =
+    went-then c.args.self.now c.work-jobs-in-loop.new.self c.hear-in-loop.new.self _ _ _ _ _ _
+    (went-then c.args.self.now c.loop.self c.work-jobs-in-loop.new.self _ _ _ _ _ _ c.loop.invariant.1 (works-went c.loop.self c.work-jobs-in-loop.new.self _ _ c.loop.invariant.0 c.work-jobs-in-loop.ensures.works))
+    c.hear-in-loop.ensures.went
+
+pub returns-then-not-hear-2-clause-begun : goal.returns-then-not-hear-2-clause-begun
+returns-then-not-hear-2-clause-begun g c busy goes =
+    begun-then c.args.self.now c.loop.self c.hear-in-loop.new.self c.loop.invariant.2
+    (follows-then c.loop.self c.work-jobs-in-loop.new.self c.hear-in-loop.new.self (works-follow c.loop.self c.work-jobs-in-loop.new.self c.work-jobs-in-loop.ensures.works) c.hear-in-loop.ensures.follows)
+
+pub loop-preserved : goal.loop-preserved
+loop-preserved g c = (
+  c.hear-in-loop.ensures.driven,
+  went-then c.args.self.now c.work-jobs-in-loop.new.self c.hear-in-loop.new.self _ _ _ _ _ _
+      (went-then c.args.self.now c.loop.self c.work-jobs-in-loop.new.self _ _ _ _ _ _ c.loop.invariant.1 (works-went c.loop.self c.work-jobs-in-loop.new.self _ _ c.loop.invariant.0 c.work-jobs-in-loop.ensures.works))
+      c.hear-in-loop.ensures.went,
+  begun-then c.args.self.now c.loop.self c.hear-in-loop.new.self c.loop.invariant.2
+      (follows-then c.loop.self c.work-jobs-in-loop.new.self c.hear-in-loop.new.self (works-follow c.loop.self c.work-jobs-in-loop.new.self c.work-jobs-in-loop.ensures.works) c.hear-in-loop.ensures.follows),
+)

@@ -1,0 +1,97 @@
+use Rattle.std.proofs.Common.{◌≡◌, Bool, false, List, ℕ, sym, ◌∙◌}
+use Rattle.ws_io.specs.Moment.{Moment, moment}
+use Rattle.ws_node.specs.Turns.{AreQuiet}
+use Rattle.ws_node.proofs.Going.{went-same, went-then}
+use Rattle.ws_node.proofs.Telling.{ToldAll, tells}
+use Rattle.ws_node.proofs.Turning.{Begins, begins-driven, begins-went, done, idle}
+use Rattle.ws_node.proofs.node.Node.turn.Goals as goal
+
+pub returns-in-Some-NoMemory-clause-went : goal.returns-in-Some-NoMemory-clause-went
+returns-in-Some-NoMemory-clause-went g c =
+    went-same c.args.self.now (moment (g.S.Source.faults c.args.input.now) (g.S.Source.feed c.args.input.now) (g.K.Sink.faults c.args.output.now) (g.K.Sink.finished c.args.output.now)) (g.K.Sink.got c.args.output.now)
+
+pub returns-in-Some-Spent-clause-went : goal.returns-in-Some-Spent-clause-went
+returns-in-Some-Spent-clause-went g c =
+    went-same c.args.self.now (moment (g.S.Source.faults c.args.input.now) (g.S.Source.feed c.args.input.now) (g.K.Sink.faults c.args.output.now) (g.K.Sink.finished c.args.output.now)) (g.K.Sink.got c.args.output.now)
+
+pub go_on-requires : goal.go_on-requires
+go_on-requires g c =
+    begins-driven c.args.self.now c.post-posted.new.self c.take_above-above.new.self c.take_below-below.new.self c.post-posted.result c.take_above-above.result c.take_below-below.result
+    (record { driven = c.requires; goes = c.in-None.is; post = c.post-posted.ensures; above = c.take_above-above.ensures; below = c.take_below-below.ensures })
+
+pub returns-in-Some-Spent-stopped-clause-went : goal.returns-in-Some-Spent-stopped-clause-went
+returns-in-Some-Spent-stopped-clause-went g c =
+    went-then c.args.self.now c.take_below-below.new.self c.go_on.new.self _ _ _ _ _ _
+    (begins-went c.args.self.now c.post-posted.new.self c.take_above-above.new.self c.take_below-below.new.self c.post-posted.result c.take_above-above.result c.take_below-below.result
+    (record { driven = c.requires; goes = c.in-None.is; post = c.post-posted.ensures; above = c.take_above-above.ensures; below = c.take_below-below.ensures })
+    (moment (g.S.Source.faults c.args.input.now) (g.S.Source.feed c.args.input.now) (g.K.Sink.faults c.args.output.now) (g.K.Sink.finished c.args.output.now)) (g.K.Sink.got c.args.output.now))
+    c.go_on.ensures.went
+
+pub returns-then-is_over-clause-went : goal.returns-then-is_over-clause-went
+returns-then-is_over-clause-went g c =
+    went-then c.args.self.now c.take_below-below.new.self c.go_on.new.self _ _ _ _ _ _
+    (begins-went c.args.self.now c.post-posted.new.self c.take_above-above.new.self c.take_below-below.new.self c.post-posted.result c.take_above-above.result c.take_below-below.result
+    (record { driven = c.requires; goes = c.in-None.is; post = c.post-posted.ensures; above = c.take_above-above.ensures; below = c.take_below-below.ensures })
+    (moment (g.S.Source.faults c.args.input.now) (g.S.Source.feed c.args.input.now) (g.K.Sink.faults c.args.output.now) (g.K.Sink.finished c.args.output.now)) (g.K.Sink.got c.args.output.now))
+    c.go_on.ensures.went
+
+pub returns-then-some-clause-went : goal.returns-then-some-clause-went
+returns-then-some-clause-went g c =
+    went-then c.args.self.now c.take_below-below.new.self c.go_on.new.self _ _ _ _ _ _
+    (begins-went c.args.self.now c.post-posted.new.self c.take_above-above.new.self c.take_below-below.new.self c.post-posted.result c.take_above-above.result c.take_below-below.result
+    (record { driven = c.requires; goes = c.in-None.is; post = c.post-posted.ensures; above = c.take_above-above.ensures; below = c.take_below-below.ensures })
+    (moment (g.S.Source.faults c.args.input.now) (g.S.Source.feed c.args.input.now) (g.K.Sink.faults c.args.output.now) (g.K.Sink.finished c.args.output.now)) (g.K.Sink.got c.args.output.now))
+    c.go_on.ensures.went
+
+pub returns-else-some-clause-went : goal.returns-else-some-clause-went
+returns-else-some-clause-went g c =
+    went-then c.args.self.now c.take_below-below.new.self c.go_on.new.self _ _ _ _ _ _
+    (begins-went c.args.self.now c.post-posted.new.self c.take_above-above.new.self c.take_below-below.new.self c.post-posted.result c.take_above-above.result c.take_below-below.result
+    (record { driven = c.requires; goes = c.in-None.is; post = c.post-posted.ensures; above = c.take_above-above.ensures; below = c.take_below-below.ensures })
+    (moment (g.S.Source.faults c.args.input.now) (g.S.Source.feed c.args.input.now) (g.K.Sink.faults c.args.output.now) (g.K.Sink.finished c.args.output.now)) (g.K.Sink.got c.args.output.now))
+    c.go_on.ensures.went
+
+pub returns-in-Some-NoMemory-stopped-clause-driven : goal.returns-in-Some-NoMemory-stopped-clause-driven
+returns-in-Some-NoMemory-stopped-clause-driven g c =
+    (tells c.args.self.now c.go_on.new.self c.tell.new.self
+    (moment (g.S.Source.faults c.args.input.now) (g.S.Source.feed c.args.input.now) (g.K.Sink.faults c.args.output.now) (g.K.Sink.finished c.args.output.now))
+    (moment (g.S.Source.faults c.go_on.new.input) (g.S.Source.feed c.go_on.new.input) (g.K.Sink.faults c.go_on.new.output) (g.K.Sink.finished c.go_on.new.output))
+    (g.K.Sink.got c.args.output.now) (g.K.Sink.got c.go_on.new.output) c.requires c.in-None.is
+    (went-then c.args.self.now c.take_below-below.new.self c.go_on.new.self _ _ _ _ _ _
+    (begins-went c.args.self.now c.post-posted.new.self c.take_above-above.new.self c.take_below-below.new.self c.post-posted.result c.take_above-above.result c.take_below-below.result
+    (record { driven = c.requires; goes = c.in-None.is; post = c.post-posted.ensures; above = c.take_above-above.ensures; below = c.take_below-below.ensures })
+    (moment (g.S.Source.faults c.args.input.now) (g.S.Source.feed c.args.input.now) (g.K.Sink.faults c.args.output.now) (g.K.Sink.finished c.args.output.now)) (g.K.Sink.got c.args.output.now))
+    c.go_on.ensures.went)
+    c.go_on.ensures.driven c.in-Some-NoMemory-stopped.field-0 c.in-Some-NoMemory-stopped.is c.tell.ensures).driven
+
+pub returns-in-Some-NoMemory-stopped-clause-went : goal.returns-in-Some-NoMemory-stopped-clause-went
+returns-in-Some-NoMemory-stopped-clause-went g c =
+    (tells c.args.self.now c.go_on.new.self c.tell.new.self
+    (moment (g.S.Source.faults c.args.input.now) (g.S.Source.feed c.args.input.now) (g.K.Sink.faults c.args.output.now) (g.K.Sink.finished c.args.output.now))
+    (moment (g.S.Source.faults c.go_on.new.input) (g.S.Source.feed c.go_on.new.input) (g.K.Sink.faults c.go_on.new.output) (g.K.Sink.finished c.go_on.new.output))
+    (g.K.Sink.got c.args.output.now) (g.K.Sink.got c.go_on.new.output) c.requires c.in-None.is
+    (went-then c.args.self.now c.take_below-below.new.self c.go_on.new.self _ _ _ _ _ _
+    (begins-went c.args.self.now c.post-posted.new.self c.take_above-above.new.self c.take_below-below.new.self c.post-posted.result c.take_above-above.result c.take_below-below.result
+    (record { driven = c.requires; goes = c.in-None.is; post = c.post-posted.ensures; above = c.take_above-above.ensures; below = c.take_below-below.ensures })
+    (moment (g.S.Source.faults c.args.input.now) (g.S.Source.feed c.args.input.now) (g.K.Sink.faults c.args.output.now) (g.K.Sink.finished c.args.output.now)) (g.K.Sink.got c.args.output.now))
+    c.go_on.ensures.went)
+    c.go_on.ensures.driven c.in-Some-NoMemory-stopped.field-0 c.in-Some-NoMemory-stopped.is c.tell.ensures).went
+
+pub returns-then-some-clause-turn : goal.returns-then-some-clause-turn
+returns-then-some-clause-turn g c = (
+  c.in-None-stopped.is,
+  sym c.is_over.ensures ∙ c.if-is_over.false,
+  done c.args.self.now c.post-posted.new.self c.take_above-above.new.self c.take_below-below.new.self c.post-posted.result c.take_above-above.result c.take_below-below.result c.is_busy-busy.result c.go_on.new.self
+      (moment (g.S.Source.faults c.args.input.now) (g.S.Source.feed c.args.input.now) (g.K.Sink.faults c.args.output.now) (g.K.Sink.finished c.args.output.now))
+      (moment (g.S.Source.faults c.go_on.new.input) (g.S.Source.feed c.go_on.new.input) (g.K.Sink.faults c.go_on.new.output) (g.K.Sink.finished c.go_on.new.output))
+      (g.K.Sink.got c.args.output.now) (g.K.Sink.got c.go_on.new.output) c.go_on.ensures.went
+      (record { driven = c.requires; goes = c.in-None.is; post = c.post-posted.ensures; above = c.take_above-above.ensures; below = c.take_below-below.ensures })
+      c.is_busy-busy.ensures (λ busy. c.go_on.ensures.begun busy c.in-None-stopped.is) c.if-some.true,
+)
+
+pub returns-else-some-clause-turn : goal.returns-else-some-clause-turn
+returns-else-some-clause-turn g c =
+    let h = idle c.args.self.now c.post-posted.new.self c.take_above-above.new.self c.take_below-below.new.self c.go_on.new.self c.post-posted.result c.take_above-above.result c.take_below-below.result c.is_busy-busy.result
+    (record { driven = c.requires; goes = c.in-None.is; post = c.post-posted.ensures; above = c.take_above-above.ensures; below = c.take_below-below.ensures })
+    c.is_busy-busy.ensures c.go_on.ensures.idle c.if-some.false in
+    (c.in-None-stopped.is, sym c.is_over.ensures ∙ c.if-is_over.false, h.0, h.1)

@@ -1,0 +1,81 @@
+-- What a turn of a node does first, and what it answers.
+use Rattle.std.specs.Prelude.{◌≡◌, ◌<◌, ◌&&◌, Bool, true, false, List, ◌∷◌, length, Option, Some, None}
+use Rattle.ws_steps.specs.Queues.{is_empty}
+use Rattle.ws_steps.specs.Run.{Entry, Worked as JobWorked, Heard, run, is_idle}
+use Rattle.ws_steps.specs.Slots.{is_live}
+use Rattle.ws_realm.specs.Seen.{oldest}
+use Rattle.ws_realm.specs.declared.realm.Why.TheVariants as why
+use Rattle.ws_node.specs.declared.node.Node.{Node}
+use Rattle.ws_node.specs.declared.turn.Turn.{Turn}
+use Rattle.ws_node.specs.declared.turn.Turn.TheVariants.{Worked, Idle, Ended, NoMemory, Spent}
+use Rattle.ws_chain_laws.specs.Chain.{source_port}
+use Rattle.ws_edge.specs.Edge.{AtEdge, FindsFull, FindsNone}
+use Rattle.ws_node.specs.Edges.{takes_more}
+use Rattle.ws_node.specs.Node.{is_busy, is_over, port_below, received_at, sent_at}
+
+-- some run leads from the realm of a to that of b
+pub record Follows (a b : Node) : Type 0 where
+  pub entries : List Entry
+  pub slots : b.core.realm.slots ≡ run entries a.core.realm.slots
+
+-- one that begins so
+pub record GoesBy (x : Entry) (a b : Node) : Type 0 where
+  pub rest : List Entry
+  pub slots : b.core.realm.slots ≡ run (x ∷ rest) a.core.realm.slots
+
+-- what waited was begun with: the first job was performed, or the host heard of the first event
+pub data IsBegun (a b : Node) : Type 0 where
+  JobFirst : is_idle a.core.realm.slots ≡ false → GoesBy JobWorked a b → IsBegun a b
+  EventFirst : is_empty a.core.realm.slots.promises.events ≡ false → GoesBy Heard a b → IsBegun a b
+
+-- a realm performed jobs until no job was left, or as many were performed as may be
+pub data HasWorked (a b : Node) : Type 0 where
+  AnyJob : is_idle a.core.realm.slots ≡ false → GoesBy JobWorked a b → HasWorked a b
+  NoneQueued : is_idle b.core.realm.slots ≡ true → b.core.realm.slots ≡ a.core.realm.slots → HasWorked a b
+
+-- the host heard of an event
+pub record HasHeard (a b : Node) : Type 0 where
+  pub going : a.core.stopped ≡ None
+  pub some : is_empty a.core.realm.slots.promises.events ≡ false
+  pub goes : GoesBy Heard a b
+
+-- there was none
+pub record NoneHeard (a : Node) : Type 0 where
+  pub going : a.core.stopped ≡ None
+  pub none : is_empty a.core.realm.slots.promises.events ≡ true
+
+-- both ends are as they were
+pub record SameEnds (a b : Node) : Type 0 where
+  pub above : b.entrance.above ≡ a.entrance.above
+  pub below : b.exit.below ≡ a.exit.below
+
+-- a message was taken or posted at an end
+pub data HasSent (a b : Option AtEdge) : Type 0 where
+  TookOne : length (received_at a) < length (received_at b) → HasSent a b
+  PostedOne : length (sent_at a) < length (sent_at b) → HasSent a b
+
+-- At an end nothing was to be had: where its port is held and no error came over the edge, a look found no message; and nothing waits to be posted, or a look
+-- found the row full
+abbrev pub IsQuietEnd : Bool → Option AtEdge → Option AtEdge → Type 0
+IsQuietEnd held (Some a) (Some b) = (held ≡ true → FindsNone a.from b.from) × (is_empty b.waiting ≡ false → FindsFull a.to b.to)
+IsQuietEnd held None None = Unit {0}
+IsQuietEnd held _ _ = ⊥
+
+pub record AreQuiet (a b : Node) : Type 0 where
+  pub above : IsQuietEnd (is_live source_port a.core.realm.slots && takes_more a.entrance.input) a.entrance.above b.entrance.above
+  pub below : IsQuietEnd (is_live (port_below a.entrance) a.core.realm.slots) a.exit.below b.exit.below
+
+-- what was done in a turn: a message was taken or posted, or what waited was begun with
+pub data HasDone (a b : Node) : Type 0 where
+  SentAbove : HasSent a.entrance.above b.entrance.above → HasDone a b
+  SentBelow : HasSent a.exit.below b.exit.below → HasDone a b
+  Begun : IsBegun a b → HasDone a b
+
+-- the turn that began at a and ended at b: it worked only where a message was taken or posted, a job performed or an event heard of, and was idle only
+-- where no job was queued and no event waited, and there was nothing to be had at its ends
+abbrev pub TurnIs : Turn → Node → Node → Type 0
+TurnIs Worked a b = (b.core.stopped ≡ None) × (is_over b ≡ false) × (HasDone a b)
+TurnIs Idle a b = (b.core.stopped ≡ None) × (is_over b ≡ false) × (is_busy a.core ≡ false) × (AreQuiet a b)
+TurnIs Ended a b = (b.core.stopped ≡ None) × (is_over b ≡ true)
+TurnIs NoMemory a b = b.core.stopped ≡ Some why.NoMemory
+TurnIs Spent a b = (b.core.stopped ≡ Some why.Spent) × (b.core.realm.slots.age ≡ oldest)

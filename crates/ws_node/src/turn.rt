@@ -1,0 +1,70 @@
+//! A turn of a node, and what it answers.
+ghost use Rattle.std.specs.Prelude.{◌≡◌, false};
+ghost use Rattle.ws_io.specs.Moment.{moment};
+ghost use Rattle.ws_node.specs.Past.{Driven};
+ghost use Rattle.ws_node.specs.Turns.{TurnIs};
+ghost use Rattle.ws_node.specs.Went.{Went};
+
+use crate::node::Node;
+use std::alloc::Global;
+use ws_io::{Sink, Source};
+use ws_realm::Why;
+
+/// How a turn of a node ended.
+#[derive(Clone, Copy, PartialEq, Eq)]
+pub enum Turn {
+    /// A message was taken or posted, a job was performed, or an event was heard of.
+    Worked,
+    /// There was nothing to do.
+    Idle,
+    /// Each pipe has settled, the host has heard of everything, and nothing waits to be posted.
+    Ended,
+    /// Memory was wanting, in this turn or an earlier one.
+    NoMemory,
+    /// The realm has performed 2^62 calls and jobs, and performs no more.
+    Spent,
+}
+
+impl Node {
+    /// One turn: the node posts what waits at its edges, takes at most one message from each, and then performs at most
+    /// 100,000 jobs and hears of at most 64 events, with what it does at each. One that has stopped does nothing; one
+    /// that finds no memory tells its neighbours so.
+    pub fn turn<S: Source, K: Sink>(&mut self, alloc: Global, input: &mut S, output: &mut K) -> Turn
+        requires { Driven self.old }
+        ensures driven { Driven self.new }
+        ensures went { Went self.old self.new
+            (moment (S.faults input.old) (S.feed input.old) (K.faults output.old) (K.finished output.old))
+            (moment (S.faults input.new) (S.feed input.new) (K.faults output.new) (K.finished output.new))
+            (K.got output.old) (K.got output.new) }
+        ensures turn { TurnIs result self.old self.new }
+    {
+        match self.core.stopped {
+            Some(Why::NoMemory) => return Turn::NoMemory,
+            Some(Why::Spent) => return Turn::Spent,
+            None => {}
+        }
+        let posted = self.post();
+        let above = self.take_above();
+        let below = self.take_below();
+        let busy = self.core.is_busy();
+        let some = posted | above | below | busy;
+        self.go_on(alloc, input, output);
+        match self.core.stopped {
+            Some(Why::NoMemory) => {
+                // Two chunks and an end at most are under way on an edge, so the row of eight has room for the error.
+                self.tell();
+                Turn::NoMemory
+            }
+            Some(Why::Spent) => Turn::Spent,
+            None => {
+                if self.is_over() {
+                    Turn::Ended
+                } else if some {
+                    Turn::Worked
+                } else {
+                    Turn::Idle
+                }
+            }
+        }
+    }
+}

@@ -1,5 +1,0 @@
-use Rattle.ws_runner.proofs.EndSteps.{brings-as}
-use Rattle.ws_runner.proofs.node.Node.bring.Goals as goal
-
-pub returns : goal.returns
-returns c = brings-as c.args.message c.broken_by-self.result c.args.self.now c.deliver.new.self c.broken_by-self.ensures c.deliver.ensures

@@ -1,6 +1,0 @@
-use Rattle.std.proofs.Common.{sym}
-use Rattle.ws_runner.proofs.Ending.{outcome-there}
-use Rattle.ws_runner.proofs.node.Node.outcome.Goals as goal
-
-pub unreachable-requires : goal.unreachable-requires
-unreachable-requires c = outcome-there c.args.self.now c.requires (sym c.in-None.ensures)

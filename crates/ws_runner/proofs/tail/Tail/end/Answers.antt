@@ -1,5 +1,0 @@
-use Rattle.ws_runner.proofs.Joining.{above-some}
-use Rattle.ws_runner.proofs.tail.Tail.end.Goals as goal
-
-pub upper_end-requires : goal.upper_end-requires
-upper_end-requires c = above-some c.self.inside.node c.self.invariant.0 c.self.invariant.1
