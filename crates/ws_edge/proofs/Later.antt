@@ -8,6 +8,7 @@ pub later-same : (e : AtEdge) → IsLater e e [] []
 later-same e = record {
   from_row = refl;
   to_row = refl;
+  traced = refl;
   received = sym (append-nil e.from.received);
   gives = sym (append-nil (given e));
   posted = [];
@@ -20,6 +21,7 @@ pub later-then : (a b c : AtEdge) (taken more taken2 more2 : List Message) → I
 later-then a b c taken more taken2 more2 h k = record {
   from_row = k.from_row ∙ h.from_row;
   to_row = k.to_row ∙ h.to_row;
+  traced = k.traced ∙ h.traced;
   received = k.received ∙ ap (λ ms. ms ++ taken2) h.received ∙ append_assoc a.from.received taken taken2;
   gives = k.gives ∙ ap (λ ms. ms ++ more2) h.gives ∙ append_assoc (given a) more more2;
   posted = h.posted ++ k.posted;
@@ -29,10 +31,11 @@ later-then a b c taken more taken2 more2 h k = record {
 }
 
 -- by `post`
-pub later-posted : (a b : AtEdge) → PostsFirst a b → given b ≡ given a → b.to.row ≡ a.to.row → b.from ≡ a.from → a.to.looks ≤ b.to.looks → IsLater a b [] []
-later-posted a b p g r f l = record {
+pub later-posted : (a b : AtEdge) → PostsFirst a b → given b ≡ given a → b.to.row ≡ a.to.row → b.from ≡ a.from → b.traced ≡ a.traced → a.to.looks ≤ b.to.looks → IsLater a b [] []
+later-posted a b p g r f t l = record {
   from_row = ap (λ (t : Taken). t.row) f;
   to_row = r;
+  traced = t;
   received = ap (λ (t : Taken). t.received) f ∙ sym (append-nil a.from.received);
   gives = g ∙ sym (append-nil (given a));
   posted = p.posted;
@@ -46,6 +49,7 @@ pub later-given : (a b : AtEdge) (more : List Message) → b ≡ record a { wait
 later-given a b more e = let P : AtEdge → Type 0 = λ b. IsLater a b [] more in subst P (sym e) (record {
   from_row = refl;
   to_row = refl;
+  traced = refl;
   received = sym (append-nil a.from.received);
   gives = sym (append_assoc a.to.sent a.waiting more);
   posted = [];
@@ -55,10 +59,11 @@ later-given a b more e = let P : AtEdge → Type 0 = λ b. IsLater a b [] more i
 })
 
 -- by `take`: what it answered was received, or nothing
-pub later-taken : (a b : AtEdge) (taken : List Message) → b.to ≡ a.to → b.waiting ≡ a.waiting → b.from.row ≡ a.from.row → b.from.looks ≡ a.from.looks + 1
+pub later-taken : (a b : AtEdge) (taken : List Message) → b.to ≡ a.to → b.waiting ≡ a.waiting → b.traced ≡ a.traced → b.from.row ≡ a.from.row → b.from.looks ≡ a.from.looks + 1
     → b.from.received ≡ a.from.received ++ taken → IsLater a b taken []
-later-taken a b taken t w r l h = record {
+later-taken a b taken t w k r l h = record {
   from_row = r;
+  traced = k;
   to_row = ap (λ (p : Posted). p.row) t;
   received = h;
   gives = ap (λ (p : Posted). p.sent ++ b.waiting) t ∙ ap (λ ms. a.to.sent ++ ms) w ∙ sym (append-nil (given a));

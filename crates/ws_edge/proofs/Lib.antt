@@ -1,3 +1,4 @@
 pub mod Ends
+pub mod Marked
 pub mod Posts
 pub mod Later

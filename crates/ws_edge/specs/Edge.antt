@@ -6,11 +6,12 @@ use Rattle.ws_value.specs.declared.value.Plain.{Plain}
 use Rattle.ws_steps.specs.PortHistory.{has_end}
 use Rattle.ws_port.specs.Ends.{Posted, Taken}
 
--- what was taken from the one row, what was posted to the other, and what waits to be posted, in order
+-- what was taken from the one row, what was posted to the other, what waits to be posted, in order, and whether the marks of what was posted are kept
 pub record AtEdge : Type 0 where
   pub from : Taken
   pub to : Posted
   pub waiting : List Message
+  pub traced : Bool
 
 -- all that the end was given to post
 abbrev pub given : AtEdge → List Message
@@ -48,6 +49,7 @@ pub record IsCounted (all : List Message) (count : ℕ) (ended : Bool) (waiting 
 pub record IsLater (old new : AtEdge) (taken more : List Message) : Type 0 where
   pub from_row : new.from.row ≡ old.from.row
   pub to_row : new.to.row ≡ old.to.row
+  pub traced : new.traced ≡ old.traced
   pub received : new.from.received ≡ old.from.received ++ taken
   pub gives : given new ≡ given old ++ more
   pub posted : List Message

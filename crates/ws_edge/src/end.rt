@@ -1,9 +1,11 @@
 //! An end of an edge.
-ghost use Rattle.std.specs.Prelude.{◌≡◌, ◌↔◌, false, [], ◌∷◌, ◌++◌, ◌+◌, ◌<◌, ◌≤◌, length, IsTrue, IfOk, OnOk, OnErr, IfSome, IfNone, OnSome};
+ghost use Rattle.std.specs.Prelude.{◌≡◌, ◌↔◌, false, [], ◌∷◌, ◌++◌, ◌+◌, ◌<◌, ◌≤◌, length, is_some, IsTrue, IfOk, OnOk, OnErr, IfSome, IfNone, OnSome};
 ghost use Rattle.ws_steps.specs.PortHistory as messages;
 ghost use Rattle.ws_steps.specs.Queues as queues;
 ghost use Rattle.ws_edge.specs.Edge.{given, PostsFirst, FindsFull, last_error};
+ghost use Rattle.ws_edge.specs.Marks.{marks_of};
 
+use crate::mark::{Mark, mark_in, remember, reserve};
 use std::alloc::Global;
 use std::collections::VecDeque;
 use std::marker::Model;
@@ -23,10 +25,11 @@ pub struct Posting {
     pub all: bool,
 }
 
-/// An end of an edge. Contracts see the two rows as those of their ends, and what waits to be posted, in order.
+/// An end of an edge. Contracts see the two rows as those of their ends, what waits to be posted, in order, and whether
+/// it keeps the marks of what it posted.
 ///
 /// It has a place for a last error from the beginning, so that a node that finds no memory can still tell its
-/// neighbour.
+/// neighbour. A message has room for its mark from when it waits.
 #[derive(Drop)]
 pub struct End {
     from: Receiver,
@@ -38,19 +41,24 @@ pub struct End {
 
     /// A close or an error is among these.
     ended: bool,
+
+    /// The marks of what was posted, where they are kept.
+    marks: Option<Vec<Mark>>,
 }
 
 impl Model for End {
-    ghost use Rattle.std.specs.Prelude.{◌++◌, length};
+    ghost use Rattle.std.specs.Prelude.{◌++◌, length, is_some};
     ghost use Rattle.std.specs.VecDeque.{deque_capacity};
     ghost use Rattle.ws_edge.specs.Edge.{AtEdge, IsCounted};
+    ghost use Rattle.ws_edge.specs.Marks.{AreMarked};
 
     ghost Value = { AtEdge };
 
-    ghost view = { λ e. record { from = e.from; to = e.to; waiting = e.waiting.items } };
+    ghost view = { λ e. record { from = e.from; to = e.to; waiting = e.waiting.items; traced = is_some e.marks } };
 
     ghost invariant = { λ e. IsCounted (e.to.sent ++ e.waiting.items) e.count e.ended
-        (length e.waiting.items) (deque_capacity e.waiting) };
+        (length e.waiting.items) (deque_capacity e.waiting)
+        × AreMarked e.marks e.to.sent (length e.waiting.items) e.ended };
 }
 
 /// Whether it is a close or an error.
@@ -66,17 +74,24 @@ fn is_end(m: &Message) -> bool
 }
 
 impl End {
-    /// The end of an edge that takes from the one row and posts to the other. Nothing waits.
-    pub fn make(alloc: Global, from: Receiver, to: Sender) -> Result<End, NoMemory>
+    /// The end of an edge that takes from the one row and posts to the other. Nothing waits. With a trace it keeps the
+    /// marks of what it posts.
+    pub fn make(alloc: Global, from: Receiver, to: Sender, trace: bool) -> Result<End, NoMemory>
         requires { to.sent ≡ [] }
-        ensures { IfOk result (λ end. end ≡ record { from = from; to = to; waiting = [] }) }
+        ensures { IfOk result (λ end. end ≡ record { from = from; to = to; waiting = []; traced = trace }) }
     {
+        let marks = if trace {
+            Some(Vec::with_capacity(alloc, 4)?)
+        } else {
+            None
+        };
         Ok(End {
             from,
             to,
             waiting: VecDeque::with_capacity(alloc, 4)?,
             count: 0,
             ended: false,
+            marks,
         })
     }
 
@@ -90,6 +105,7 @@ impl End {
             return Err(NoMemory);
         }
         self.waiting.reserve(2)?;
+        reserve(&mut self.marks, self.waiting.len() + 2)?;
         self.ended |= is_end(&m);
         self.count += 1;
         self.waiting.push_back_reserved(m);
@@ -102,6 +118,7 @@ impl End {
         ensures given { given self.new ≡ given self.old }
         ensures row { self.new.to.row ≡ self.old.to.row }
         ensures from { self.new.from ≡ self.old.from }
+        ensures traced { self.new.traced ≡ self.old.traced }
         ensures looked { self.old.to.looks ≤ self.new.to.looks }
         ensures some { IsTrue result.some ↔ (length self.old.to.sent < length self.new.to.sent) }
         ensures all { result.all ≡ queues.is_empty self.new.waiting }
@@ -109,10 +126,12 @@ impl End {
     {
         let mut some = false;
         'messages: while let Some(m) = self.waiting.pop_front() {
+            let mark = mark_in(&self.marks, &m);
             if let Err(PostRefused::Full(m)) = self.to.post(m) {
                 self.waiting.push_front_reserved(m);
                 return Posting { some, all: false };
             }
+            remember(&mut self.marks, mark);
             some = true;
         }
         Posting { some, all: true }
@@ -129,6 +148,7 @@ impl End {
     pub fn take(&mut self) -> Option<Message>
         ensures to { self.new.to ≡ self.old.to }
         ensures waiting { self.new.waiting ≡ self.old.waiting }
+        ensures traced { self.new.traced ≡ self.old.traced }
         ensures row { self.new.from.row ≡ self.old.from.row }
         ensures looked { self.new.from.looks ≡ self.old.from.looks + 1 }
         ensures taken { IfSome result (λ m. self.new.from.received ≡ self.old.from.received ++ m ∷ []) }
@@ -152,10 +172,12 @@ impl End {
         self.waiting.push_back_reserved(Message::Error(reason));
     }
 
-    /// The two ends of rows. What waits is lost.
-    pub fn parts(self) -> (Receiver, Sender)
+    /// The two ends of rows, and the marks of what was posted, where they were kept. What waits is lost.
+    pub fn parts(self) -> (Receiver, Sender, Option<Vec<Mark>>)
         ensures from { result.0 ≡ self.from }
         ensures to { result.1 ≡ self.to }
+        ensures kept { is_some result.2 ≡ self.traced }
+        ensures marks { IfSome result.2 (λ marks. marks.items ≡ marks_of self.to.sent) }
     {
         let End {
             from,
@@ -163,7 +185,8 @@ impl End {
             waiting: _,
             count: _,
             ended: _,
+            marks,
         } = self;
-        (from, to)
+        (from, to, marks)
     }
 }

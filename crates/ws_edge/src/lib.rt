@@ -6,7 +6,9 @@
 #![tactic(auto)]
 
 mod end;
+mod mark;
 mod nothing;
 
 pub use end::{End, Posting};
+pub use mark::Mark;
 pub use nothing::Nothing;

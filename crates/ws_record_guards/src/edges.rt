@@ -20,6 +20,7 @@ pub fn post(end: &mut End) -> Posting
     ensures given { given end.new ≡ given end.old }
     ensures row { end.new.to.row ≡ end.old.to.row }
     ensures from { end.new.from ≡ end.old.from }
+    ensures traced { end.new.traced ≡ end.old.traced }
     ensures looked { end.old.to.looks ≤ end.new.to.looks }
     ensures some { IsTrue result.some ↔ (length end.old.to.sent < length end.new.to.sent) }
     ensures all { result.all ≡ is_empty end.new.waiting }
