@@ -1,5 +1,5 @@
 -- What a node does as its sink is written and closed, and what it settles at once.
-use Rattle.std.proofs.Common.{◌≡◌, ◌≢◌, ◌+◌, ◌-◌, ◌≤◌, ◌==◌, ℕ, zero, suc, true, false, List, [], ◌∷◌, ◌++◌, length, Option, Some, None, refl, sym, ap, ◌∙◌, subst, append-nil, length-append, arith}
+use Rattle.std.proofs.Common.{◌≡◌, ◌<◌, ◌≢◌, ◌+◌, ◌-◌, ◌≤◌, ◌==◌, ℕ, zero, suc, true, false, List, [], ◌∷◌, ◌++◌, length, Option, Some, None, refl, sym, ap, ◌∙◌, subst, append-nil, length-append, arith}
 use Rattle.std.specs.Prelude.{slice_get}
 use Rattle.std.proofs.lemmas.List.{length-map}
 use Rattle.std.proofs.lemmas.List.Elements.{All-nil, All-cons}
@@ -19,6 +19,8 @@ use Rattle.ws_io.specs.Faults.{Rose}
 use Rattle.ws_io.specs.Feed.{Feed}
 use Rattle.ws_io.specs.Gain.{Gains, KeepsTold, Becomes}
 use Rattle.ws_io.specs.Moment.{Moment}
+use Rattle.ws_io.proofs.Flow.{KeepsTold-same}
+use Rattle.ws_joined_laws.specs.Ends.{StopsIn}
 use Rattle.ws_stages.specs.State.{State}
 use Rattle.ws_steps.specs.declared.calls.Answer.TheVariants.{Ok as AnswerOk, Fail as AnswerFail}
 use Rattle.ws_steps.specs.declared.calls.Call.TheVariants.{Settle}
@@ -46,13 +48,13 @@ use Rattle.ws_node.specs.Went.{AbortGoes, OutputGoes}
 use Rattle.ws_node.proofs.Called.{may-settle}
 use Rattle.ws_node.proofs.Entries.{called-longer}
 use Rattle.ws_node.proofs.Changes.{led-abort, led-ahead, led-asked, led-output}
-use Rattle.ws_node.proofs.Going.{going-stays, went-quietly, went-rests}
+use Rattle.ws_node.proofs.Going.{abort-same, going-stays, went-quietly, went-rests}
 use Rattle.ws_node.proofs.Handled.{Handled, shows}
 use Rattle.ws_node.proofs.Handing.{lies_to, unheard-lies, one-heard}
 use Rattle.ws_node.proofs.Ones.{all-more}
 use Rattle.ws_node.proofs.Putting.{AfterQuiet, asks-quietly, quiet-then, settle-quiet}
-use Rattle.ws_node.proofs.Sinking.{count-works, abort-less, abort-nearer, abort-same, heard-out, keeps-told, nearer_by, one-stages, open-fails, output-alone, shut-kind, shut-shut, shut-stays, signal-same, sunk, to-sink}
-use Rattle.ws_node.proofs.Quiet.{IsNoPost, ends-as}
+use Rattle.ws_node.proofs.Sinking.{count-works, abort-less, abort-nearer, heard-out, nearer_by, one-stages, open-fails, output-alone, shut-kind, shut-shut, shut-stays, signal-same, stops-here, sunk, to-sink}
+use Rattle.ws_node.proofs.Quiet.{IsNoPost, stays-as, ends-as}
 use Rattle.ws_node.proofs.Since.{AfterEvent, MayAsk, own-failed}
 use Rattle.ws_node.proofs.Unheard.{at-there}
 
@@ -82,7 +84,7 @@ output-finishes output.Aborted old new e calm done = absurd (cc)
 output-finishes output.Edge old new e calm done = absurd (cc)
 
 output-aborts : (o : Output) (old : Moment) → o ≡ output.Open → OutputGoes o output.Aborted [] Lost old old
-output-aborts output.Open old e = (refl, refl, keeps-told old.finished)
+output-aborts output.Open old e = (refl, refl, KeepsTold-same old.finished)
 output-aborts output.Finished old e = absurd (cc)
 output-aborts output.Failed old e = absurd (cc)
 output-aborts output.Aborted old e = absurd (cc)
@@ -208,18 +210,19 @@ module _ (rf : ℕ) (feed : Option Feed) (p q : List ℕ → Type 0) (shape : Sh
           rw untouched.shown
           (sunk shape past a realm since goes sink_link is_last id call t event heard b a.entrance.ahead a.exit.abort o after (told [] Lost) lost-out not_edge rf feed old old p q [] Lost untouched.gained ([], refl) (λ e. omega arith)
           (subst (λ (z : Output). OutputGoes a.exit.output z [] Lost (shows rf feed old) (shows rf feed old)) (sym same) (output-alone a.exit.output [] Lost (shows rf feed old) not_edge shut_already refl))
-          (abort-same a.exit.abort [] o) (one-shut a.entrance.ahead a.exit.abort o after (shut-kind a.exit.output not_edge) (shut-shut a.exit.output) refl))
+          (abort-same a.exit.abort [] o) (λ some. absurd (omega arith)) (one-shut a.entrance.ahead a.exit.abort o after (shut-kind a.exit.output not_edge) (shut-shut a.exit.output) refl))
 
       -- it fails as it is asked for this, of which some was written
       broken : (went : Told (List ℕ)) (gain : List ℕ) → a.exit.output ≡ output.Open → Gains p q gain → Rose old.faults new.faults → KeepsTold old.finished new.finished → Fails id was b
           → ((x : Told (List ℕ)) → IsShortOf (then_told went (lies_to x was sink_link)) (lies_to x a sink_link)) → IsShortOf (told gain Lost) (bytes_of went)
-          → (a.core.stages.items ≡ [] → a.entrance.ahead ≤ length gain + a.entrance.ahead) → AbortGoes a.exit.abort a.exit.abort went.items gain (shut a.exit.output) → Handled shape a b (shows rf feed old) (shows rf feed new) p q
-      broken went gain is gained rose kept asks there written ahead abort =
+          → (a.core.stages.items ≡ [] → a.entrance.ahead ≤ length gain + a.entrance.ahead) → AbortGoes a.exit.abort a.exit.abort went.items gain (shut a.exit.output)
+          → (0 < length gain → StopsIn (length gain) went.items gain) → Handled shape a b (shows rf feed old) (shows rf feed new) p q
+      broken went gain is gained rose kept asks there written ahead abort last =
           let o = shut a.exit.output in
           let led = led-output shape further was o (shut-kind a.exit.output not_edge ∙ sym not_edge) (λ h. absurd (h is)) (λ e. absurd (let f = open-fails a.exit.output is in cc)) event.led in
           let after = badly shape further id call event.its (record was { exit = record was.exit { output = o } }) b (shut-kind a.exit.output not_edge) led (shut-shut a.exit.output) (λ e. absurd (let f = open-fails a.exit.output is in cc)) asks in
           sunk shape past a realm since goes sink_link is_last id call t event heard b a.entrance.ahead a.exit.abort o after went there not_edge rf feed old new p q gain Lost gained written ahead
-          (output-fails a.exit.output gain (shows rf feed old) (shows rf feed new) is rose kept) abort (one-shut a.entrance.ahead a.exit.abort o after (shut-kind a.exit.output not_edge) (shut-shut a.exit.output) refl)
+          (output-fails a.exit.output gain (shows rf feed old) (shows rf feed new) is rose kept) abort last (one-shut a.entrance.ahead a.exit.abort o after (shut-kind a.exit.output not_edge) (shut-shut a.exit.output) refl)
 
     -- what the sink of the last link is told
     by-sink : (t : Told Value) (k : ℕ) → only_at (count_in shape) (by_sink shape.target t) k ≡ only_at sink_link t k
@@ -298,11 +301,11 @@ module _ (rf : ℕ) (feed : Option Feed) (p q : List ℕ → Type 0) (shape : Sh
           let after = after-drawn c led (drawn (length piece) a.exit.abort m c refl draws) asks in
           sunk shape past a realm since goes sink_link is_last id call one_told event heard b left abort_left a.exit.output after (told (piece ∷ []) MayCome) out not_edge rf feed old new p q piece MayCome gained (append-nil piece, refl)
           (had-counts a.core.stages.items (length piece) a.entrance.ahead) (output-open a.exit.output piece (shows rf feed old) (shows rf feed new) is calm kept)
-          (abort-nearer a.exit.abort piece a.exit.output near) (one-written after is near)
+          (abort-nearer a.exit.abort piece a.exit.output near) (λ some. stops-here (length piece) piece piece some (omega arith) some) (one-written after is near)
       wrote (WroteLess is near gain rest e gained rose kept asks) =
           let few : length gain ≤ length piece = let m : length piece ≡ length gain + length rest = ap length e ∙ length-append gain rest in omega arith in
           broken call one_told event heard (told (piece ∷ []) Lost) gain is gained rose kept asks out-lost (rest, append-nil piece ∙ e) (λ n. omega arith)
-          (abort-less a.exit.abort piece gain (shut a.exit.output) (open-fails a.exit.output is) near few)
+          (abort-less a.exit.abort piece gain (shut a.exit.output) (open-fails a.exit.output is) near few) (λ some. stops-here (length gain) piece gain some few some)
       wrote (WroteNone closed untouched asks) = refused call one_told event heard closed untouched asks
       wrote (Reached is reached untouched asks) =
           let n : Node = record was { exit = record was.exit { output = output.Aborted } } in
@@ -310,7 +313,7 @@ module _ (rf : ℕ) (feed : Option Feed) (p q : List ℕ → Type 0) (shape : Sh
           let after = badly shape further id call event.its n b refl led (λ e. cc) (λ e. reached) asks in
           rw untouched.shown
           (sunk shape past a realm since goes sink_link is_last id call one_told event heard b a.entrance.ahead a.exit.abort output.Aborted after (told [] Lost) (lost-out call one_told event heard) not_edge rf feed old old p q [] Lost untouched.gained ([], refl)
-          (λ e. omega arith) (output-aborts a.exit.output (shows rf feed old) is) (abort-same a.exit.abort [] output.Aborted) (one-shut call one_told event heard a.entrance.ahead a.exit.abort output.Aborted after refl (λ e. cc) refl))
+          (λ e. omega arith) (output-aborts a.exit.output (shows rf feed old) is) (abort-same a.exit.abort [] output.Aborted) (λ some. absurd (omega arith)) (one-shut call one_told event heard a.entrance.ahead a.exit.abort output.Aborted after refl (λ e. cc) refl))
 
     -- the sink is closed
     module _ (event : AfterEvent shape past a realm (Host id (Close a.exit.sink))) where
@@ -321,12 +324,12 @@ module _ (rf : ℕ) (feed : Option Feed) (p q : List ℕ → Type 0) (shape : Sh
           let after = well shape further id call event.its (record was { exit = record was.exit { output = output.Finished } }) b led (λ e feeds. refl) (λ s f. cc) asks in
           sunk shape past a realm since goes sink_link is_last id call (told [] Closed) event heard-close b a.entrance.ahead a.exit.abort output.Finished after (told [] Closed)
           (heard-out shape past a realm since goes sink_link is_last id call (told [] Closed) event heard-close) not_edge rf feed old new p q [] Closed gained (refl, refl)
-          (λ e. omega arith) (output-finishes a.exit.output (shows rf feed old) (shows rf feed new) is calm done) (abort-same a.exit.abort [] output.Finished)
+          (λ e. omega arith) (output-finishes a.exit.output (shows rf feed old) (shows rf feed new) is calm done) (abort-same a.exit.abort [] output.Finished) (λ some. absurd (omega arith))
           (one-shut call (told [] Closed) event heard-close a.entrance.ahead a.exit.abort output.Finished after refl (λ e. cc) refl)
       closed (FinishedBadly is gained rose kept asks) =
           let call = Close a.exit.sink in
           broken call (told [] Closed) event heard-close (told [] Lost) [] is gained rose kept asks (lost-out call (told [] Closed) event heard-close) ([], refl) (λ n. omega arith)
-          (abort-same a.exit.abort [] (shut a.exit.output))
+          (abort-same a.exit.abort [] (shut a.exit.output)) (λ some. absurd (omega arith))
       closed (FinishedNot shut_already untouched asks) = refused (Close a.exit.sink) (told [] Closed) event heard-close shut_already untouched asks
 
   -- of nothing whose bytes lie in the node
@@ -362,9 +365,9 @@ module _ (rf : ℕ) (feed : Option Feed) (p q : List ℕ → Type 0) (shape : Sh
           led = led-asked shape further was id (i, subst (λ x. IsItsCall (called further) x) is event.its) event.led;
           pushes = λ h. subst (λ (k : ℕ). ArePushed k a.core.stages.items) (sym event.age) (since.pushes goes);
           one = one;
-          ends = ends-as shape further was n refl refl (λ h. h) (event.ends no_post since.ends);
+          ends = ends-as shape further was n refl refl (stays-as was.core.stopped) (event.ends no_post since.ends);
           went = went-quietly a n (shows rf feed old) p q untouched.gained (going-stays a n goes)
-              (record { taken = refl; ahead = λ h. refl; input = refl; output = refl; abort = refl; stages = refl; source = refl; sink = refl; most = refl; pipe = refl; pipes = refl; first = refl; above = refl; below = refl }) rest-goes;
+              (record { taken = refl; ahead = λ h. refl; input = refl; output = refl; abort = refl; stages = refl; source = refl; sink = refl; most = refl; pipe = refl; pipes = refl; first = refl; above = refl; below = refl; broken = refl }) rest-goes;
         })
 
     -- it is settled at once

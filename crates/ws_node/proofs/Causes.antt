@@ -1,6 +1,6 @@
 -- Each error that a node gave down has a reason that came to it or has its cause in it, or tells of want of memory. An error that came up justifies none:
 -- once one came, those that the port of the edge below posts are for failures before it.
-use Rattle.std.proofs.Common.{◌≡◌, ◌≢◌, ℕ, zero, suc, ◌≤◌, nat_eq, Bool, true, List, [], ◌∷◌, ◌++◌, map, All, Contains, Option, Some, None, slice_get, refl, sym, ap, subst, ◌∙◌, append_assoc, arith}
+use Rattle.std.proofs.Common.{◌≡◌, ℕ, zero, suc, ◌≤◌, nat_eq, Bool, true, List, [], ◌∷◌, ◌++◌, map, All, Contains, Option, Some, None, slice_get, refl, sym, ap, subst, ◌∙◌, append_assoc, arith}
 use Rattle.std.specs.Prelude.{is_some}
 use Rattle.std.proofs.lemmas.List.Elements.{All-nil, All-cons, All-append, All-contains}
 use Rattle.ws_value.specs.declared.fault.Fault.TheVariants.{NoMemory}
@@ -38,6 +38,7 @@ use Rattle.ws_clone_laws.proofs.Nodes.{each_node_clones, each_node_error_is_olde
 use Rattle.ws_joined_laws.specs.Reasons.{reasons_in}
 use Rattle.ws_node_laws.specs.Messages.{taken_events}
 use Rattle.ws_realm.specs.declared.realm.Why.{Why}
+use Rattle.ws_realm.specs.declared.realm.Why.TheVariants as why
 use Rattle.ws_node.specs.declared.node.Node.{Node}
 use Rattle.ws_node.specs.Fair.{IsFairAnswer, BringsFair, AllBringFair}
 use Rattle.ws_node.specs.Messages.{is_fair, is_fair_reason}
@@ -183,7 +184,7 @@ module _ (o : Origin) (n : ℕ) (b : Bool) (few : n ≤ 16) where
 
 -- of those that were given
 
-given-reasons : (P : Plain → Type 0) (posted ms : List Message) (stopped : Option Why) → (stopped ≢ None → P (FaultReason NoMemory)) → All P (reasons_in posted) → IsGiven posted ms stopped → All P (reasons_in ms)
+given-reasons : (P : Plain → Type 0) (posted ms : List Message) (stopped : Option Why) → (stopped ≡ Some why.NoMemory → P (FaultReason NoMemory)) → All P (reasons_in posted) → IsGiven posted ms stopped → All P (reasons_in ms)
 given-reasons P posted ms stopped last a (Whole e) = subst (λ ys. All P (reasons_in ys)) (sym e) a
 given-reasons P posted ms stopped last a (FirstPart s rest e) = all-left P (reasons_in ms) (reasons_in rest) (subst (All P) (ap reasons_in e ∙ reasons-append ms rest) a)
 given-reasons P posted ms stopped last a (WithLast s first rest e none is) =
@@ -192,12 +193,12 @@ given-reasons P posted ms stopped last a (WithLast s first rest e none is) =
     subst (All P) (sym (ap reasons_in is ∙ reasons-append first (error ∷ [])))
     (All-append P (reasons_in first) (FaultReason NoMemory ∷ []) before (All-cons P (FaultReason NoMemory) [] (last s) (All-nil P)))
 
-reasons-at : (P : Plain → Type 0) (port : PortId) (past : List Entry) (stopped : Option Why) (o : Option AtEdge) → (stopped ≢ None → P (FaultReason NoMemory)) → EndHas port past stopped o
+reasons-at : (P : Plain → Type 0) (port : PortId) (past : List Entry) (stopped : Option Why) (o : Option AtEdge) → (stopped ≡ Some why.NoMemory → P (FaultReason NoMemory)) → EndHas port past stopped o
     → All P (reasons_in (posted_in port (taken_events past empty))) → All P (reasons_in (given_at o))
 reasons-at P port past stopped None last h a = All-nil P
 reasons-at P port past stopped (Some e) last h a = given-reasons P (posted_in port (taken_events past empty)) (given e) stopped last a h.given
 
-sent-for : (n : Node) → n.core.stopped ≢ None → IsSentFor n (FaultReason NoMemory)
+sent-for : (n : Node) → n.core.stopped ≡ Some why.NoMemory → IsSentFor n (FaultReason NoMemory)
 sent-for n s = Wanting refl s
 
 pub rests-caused : (shape : Shape) (past : List Entry) (n : Node) → Rests shape past n → AreCaused shape past n → HasCauses n

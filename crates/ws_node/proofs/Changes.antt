@@ -31,7 +31,7 @@ use Rattle.ws_node.specs.Edges.{broken_by, with_above, with_below}
 use Rattle.ws_node.specs.Messages.{fairly}
 use Rattle.ws_node.specs.Moves.{HasStages, stopped_by}
 use Rattle.ws_node.specs.Node.{is_edge, feeds_edge, is_reached, received_at, stages_in}
-use Rattle.ws_node.specs.Past.{EndedAs, FlushesFine, IsPull, Counts, IsFedAs, FeedsAs, IsShaped, Led, is_shut}
+use Rattle.ws_node.specs.Past.{EndedAs, FlushesFine, IsPull, Counts, IsFedAs, FeedsAs, Led, is_shut}
 use Rattle.ws_node.specs.Ran.{HasRun}
 use Rattle.ws_node.proofs.Reasons.{KeepsCauses, same-causes, causes-stay, passed-more}
 
@@ -236,6 +236,12 @@ pub led-below : (shape : Shape) (past : List Entry) (n : Node) (e f : AtEdge) �
 led-below shape past n e f is s =
     let x : Exit = record n.exit { below = Some f } in
     led-exit shape past n x s (feeds-as shape.target n.exit x refl (not_none n.exit.below e _ is) (λ h. refl) s.is_of.into) refl refl refl (λ h. h) s.aborts (exit-causes n x (λ h. h) (λ h. h))
+
+-- that an error came up is remembered
+pub led-broken : (shape : Shape) (past : List Entry) (n : Node) (broken : Bool) → Led shape past n → Led shape past (record n { exit = record n.exit { broken = broken } })
+led-broken shape past n broken s =
+    let x : Exit = record n.exit { broken = broken } in
+    led-exit shape past n x s (feeds-as shape.target n.exit x refl (λ h. h) (λ h. h) s.is_of.into) refl refl refl (λ h. h) s.aborts (exit-causes n x (λ h. h) (λ h. h))
 
 -- the first error that came over the edge above is remembered
 

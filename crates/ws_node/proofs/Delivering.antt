@@ -1,9 +1,8 @@
 -- What a message that is delivered is to a node, and to the ends of its edges.
-use Rattle.std.proofs.Common.{◌≡◌, ◌≢◌, ◌⊎◌, inl, inr, ◌+◌, ◌≤◌, ◌<◌, ℕ, zero, suc, nat_eq, Bool, true, false, List, [], ◌∷◌, ◌++◌, length, Option, Some, None, refl, sym, ap, ◌∙◌, subst, append-nil, append_assoc, arith}
-use Rattle.std.specs.List.{concat}
-use Rattle.std.specs.Prelude.{All, Contains, is_some}
+use Rattle.std.proofs.Common.{◌≡◌, ◌≢◌, ◌⊎◌, inl, inr, ◌+◌, ℕ, suc, nat_eq, true, false, List, [], ◌∷◌, ◌++◌, Option, Some, None, refl, sym, ap, ◌∙◌, subst, append-nil, arith}
+use Rattle.std.specs.Prelude.{All, Contains}
 use Rattle.std.proofs.lemmas.Bool.Decides.{nat_tests}
-use Rattle.std.proofs.lemmas.List.Elements.{All-nil, All-cons, Contains-append_right, Contains-push}
+use Rattle.std.proofs.lemmas.List.Elements.{All-nil, All-cons, Contains-push}
 use Rattle.ws_value.specs.declared.ids.PortId.{PortId}
 use Rattle.ws_value.specs.declared.value.Message.{Message}
 use Rattle.ws_value.specs.declared.value.Message.TheVariants.{Pull, Chunk, Close, Error}
@@ -12,50 +11,37 @@ use Rattle.ws_value.specs.declared.value.Value.{Value}
 use Rattle.ws_value.specs.declared.value.Value.TheVariants.{Plain as PlainValue, Bytes}
 use Rattle.ws_edge.specs.Edge.{AtEdge, given}
 use Rattle.ws_flow.proofs.Ends.{goes_behind}
-use Rattle.ws_flow.proofs.Steps.{goes_enters, goes_rests}
-use Rattle.ws_flow.proofs.Told.{short_trans, short_as, short_left, then_empty}
-use Rattle.ws_flow.specs.Parts.{AtWork, Goes}
+use Rattle.ws_flow.specs.Parts.{Goes}
 use Rattle.ws_flow.specs.Rows.{told_by}
 use Rattle.ws_flow.specs.Stages.{machines}
-use Rattle.ws_flow.specs.Steps.{parts_at, behind_of}
-use Rattle.ws_flow.specs.Told.{Open as MayCome, Lost, Told, told, then_told, IsShortOf}
-use Rattle.ws_io.proofs.Flow.{Gains-nothing}
-use Rattle.ws_io.specs.Moment.{Moment}
+use Rattle.ws_flow.specs.Told.{Told, told, then_told, IsShortOf}
 use Rattle.ws_link_laws.specs.Link.{silence, delivered, is_end}
 use Rattle.ws_port.specs.Ends.{Posted}
-use Rattle.ws_steps.specs.declared.calls.Call.{Call}
 use Rattle.ws_steps.specs.declared.calls.Call.TheVariants.{Deliver}
 use Rattle.ws_steps.specs.PortHistory.{posted_in, is_same_port}
 use Rattle.ws_steps.specs.Run.{Entry}
 use Rattle.ws_steps.specs.Slots.{empty}
-use Rattle.ws_chain_laws.proofs.Nodes.{each_nodes_call_brings}
-use Rattle.ws_chain_laws.specs.Chain.{Origin, FromChunks, FromBytes, FromPort, Target, ToSink, ToPort, behind_at, first_giver, source_port, sink_port}
+use Rattle.ws_chain_laws.specs.Chain.{Origin, FromChunks, FromBytes, FromPort, Target, ToSink, ToPort, first_giver, source_port, sink_port}
 use Rattle.ws_chain_laws.specs.Nodes.{only_at}
 use Rattle.ws_joined_laws.specs.Reasons.{reasons_in}
 use Rattle.ws_node_laws.specs.Messages.{delivered_to, message_by, taken_events}
 use Rattle.ws_realm.specs.declared.realm.Why.{Why}
-use Rattle.ws_reason_laws.specs.Reasons.{failure_of, delivered_reason}
-use Rattle.ws_stages.specs.State.{State}
+use Rattle.ws_reason_laws.specs.Reasons.{delivered_reason}
 use Rattle.ws_node.specs.declared.node.Entrance.{Entrance}
 use Rattle.ws_node.specs.declared.node.Exit.{Exit}
 use Rattle.ws_node.specs.declared.node.Input.{Input}
 use Rattle.ws_node.specs.declared.node.Input.TheVariants as input
 use Rattle.ws_node.specs.declared.node.Node.{Node}
-use Rattle.ws_node.specs.Edges.{TakesEnd, TakesNone, TakesAbove, NotAbove, NoMore, NoneAbove, TookAbove, TakesBelow, NotBelow, NoneBelow, TookBelow, Brings, broken_by, takes_more, with_above, with_below}
+use Rattle.ws_node.specs.Edges.{TakesEnd, broken_by, takes_more}
 use Rattle.ws_node.specs.Messages.{as_fair, fairly, is_fair}
-use Rattle.ws_node.specs.Moves.{Asks}
-use Rattle.ws_node.specs.Node.{is_edge, feeds_edge, in_bytes, coming, coming_by, coming_behind, lost_by, lying_by, lies, lies_in, lying, held, nothing_yet, parts, stages_in, works_in, port_below, received_at, sent_at, rows_at, waiting_at}
-use Rattle.ws_node.specs.Past.{IsCause, Passed, IsFedAs, FeedsAs, IsGiven, Whole, FirstPart, WithLast, IsDelivered, HasMessages, EndHas, EndsHave, ArePushed, OneAtMost, HasOne, may_have, Led, Since}
-use Rattle.ws_node.specs.Shape.{Shape, count_in, enters_in}
-use Rattle.ws_node.specs.Went.{EdgeGoes, EndGrows, ComesIn, ByEdge, GoesOut, ToEdge}
-use Rattle.ws_node.proofs.Changes.{led-above, led-below}
-use Rattle.ws_node.proofs.Fair.{IsShort, told-short}
-use Rattle.ws_node.proofs.Fairly.{as-fair-is}
-use Rattle.ws_node.proofs.Going.{as-many, works-count, going-acts, went-same, comes-quietly, goes-quietly, held-goes, only-same, fairly-then, reasons-then}
-use Rattle.ws_node.proofs.Handled.{Handled}
+use Rattle.ws_node.specs.Node.{is_edge, feeds_edge, in_bytes, lost_by, lying, held, parts, stages_in, port_below, rows_at, waiting_at}
+use Rattle.ws_node.specs.Past.{IsCause, IsFedAs, FeedsAs, IsGiven, Whole, FirstPart, WithLast, IsDelivered, HasMessages, EndHas, ArePushed}
+use Rattle.ws_node.specs.Shape.{Shape}
+use Rattle.ws_node.specs.Went.{EdgeGoes, EndGrows}
+use Rattle.ws_node.proofs.Fair.{fairly-append}
+use Rattle.ws_node.proofs.Firsts.{reasons-append}
 use Rattle.ws_node.proofs.Ones.{all-more}
-use Rattle.ws_node.proofs.Posting.{Grows, grows-same, looked-grow, ends-handled, with_ends, GoesBy, went-of}
-use Rattle.ws_node.proofs.Since.{AfterCall, Delivers, Delivered, Undelivered, MayAsk, MayFail, AllHaveCauses, FromBelow, since-asks}
+use Rattle.ws_node.proofs.Since.{Delivers, Delivered, Undelivered, MayFail, AllHaveCauses, FromBelow}
 
 -- The ports of a node
 
@@ -112,16 +98,16 @@ reason-caused n (Error r) h = All-cons (IsCause n) r [] (h r refl) (All-nil (IsC
 -- a reason that was received last is among those received
 pub last-reason : (ms : List Message) (m : Message) (r : Plain) → as_fair m ≡ Error r → Contains (reasons_in (fairly (ms ++ m ∷ []))) r
 last-reason ms m r e =
-    subst (λ (xs : List Message). Contains (reasons_in xs) r) (sym (fairly-then ms (m ∷ [])))
-    (subst (λ (xs : List Plain). Contains xs r) (sym (reasons-then (fairly ms) (as_fair m ∷ [])))
+    subst (λ (xs : List Message). Contains (reasons_in xs) r) (sym (fairly-append ms (m ∷ [])))
+    (subst (λ (xs : List Plain). Contains xs r) (sym (reasons-append (fairly ms) (as_fair m ∷ [])))
     (subst (λ (x : Message). Contains (reasons_in (fairly ms) ++ reasons_in (x ∷ [])) r) (sym e) (Contains-push (reasons_in (fairly ms)) r)))
 
 -- What the ends of a node have once a message was delivered
 
 pub given-on : (posted ms : List Message) (now : Option Why) → IsGiven posted ms None → IsGiven posted ms now
 given-on posted ms now (Whole e) = Whole e
-given-on posted ms now (FirstPart s rest e) = absurd (s refl)
-given-on posted ms now (WithLast s first rest e none is) = absurd (s refl)
+given-on posted ms now (FirstPart s rest e) = absurd (cc)
+given-on posted ms now (WithLast s first rest e none is) = absurd (cc)
 
 pub delivered-on : (d d' ms : List Message) (now : Option Why) → d' ≡ d → IsDelivered d ms None → IsDelivered d' ms now
 delivered-on d d' ms now e h = record { rest = h.rest; first = h.first ∙ ap (λ x. x ++ h.rest) (sym e); all = λ f. h.all refl }
@@ -139,7 +125,7 @@ pub received-more : (d d' ms ms' : List Message) (m : Message) (now : Option Why
 received-more d d' ms ms' m now e h f =
     record {
       rest = [];
-      first = ap fairly e ∙ (fairly-then ms (m ∷ []) ∙ (ap (λ x. x ++ as_fair m ∷ []) (h.first ∙ (ap (λ x. d ++ x) (h.all refl) ∙ append-nil d)) ∙ (sym f ∙ sym (append-nil d'))));
+      first = ap fairly e ∙ (fairly-append ms (m ∷ []) ∙ (ap (λ x. x ++ as_fair m ∷ []) (h.first ∙ (ap (λ x. d ++ x) (h.all refl) ∙ append-nil d)) ∙ (sym f ∙ sym (append-nil d'))));
       all = λ g. refl;
     }
 
@@ -147,7 +133,7 @@ pub received-only : (d d' ms ms' : List Message) (m : Message) (now : Option Why
 received-only d d' ms ms' m now stopped e h f =
     record {
       rest = as_fair m ∷ [];
-      first = ap fairly e ∙ (fairly-then ms (m ∷ []) ∙ (ap (λ x. x ++ as_fair m ∷ []) (h.first ∙ (ap (λ x. d ++ x) (h.all refl) ∙ append-nil d)) ∙ ap (λ x. x ++ as_fair m ∷ []) (sym f)));
+      first = ap fairly e ∙ (fairly-append ms (m ∷ []) ∙ (ap (λ x. x ++ as_fair m ∷ []) (h.first ∙ (ap (λ x. d ++ x) (h.all refl) ∙ append-nil d)) ∙ ap (λ x. x ++ as_fair m ∷ []) (sym f)));
       all = λ g. absurd (stopped g);
     }
 
@@ -231,7 +217,7 @@ grown m e f o q took is now =
       to_row = ap (λ (z : Posted). z.row) took.to
 
       rows_are : rows_at (Some f) ≡ rows_at (Some e)
-      rows_are = rw (took.row, to_row) refl
+      rows_are = rw (took.row, to_row, took.traced) refl
 
 pub older-pushes : (a b : Node) → b.core.stages.items ≡ a.core.stages.items → (b.core.stopped ≡ None → b.core.realm.slots.age ≡ suc a.core.realm.slots.age)
     → ArePushed a.core.realm.slots.age a.core.stages.items → b.core.stopped ≡ None → ArePushed b.core.realm.slots.age b.core.stages.items

@@ -1,6 +1,6 @@
 -- What the methods of a node do at the ends of its edges.
-use Rattle.std.proofs.Common.{◌≡◌, ◌+◌, ◌<◌, ℕ, zero, suc, Bool, true, false, if◌then◌else◌, List, [], ◌∷◌, ◌++◌, length, Option, Some, None, refl, sym, ap, ◌∙◌, subst, arith}
-use Rattle.std.specs.Prelude.{is_some, nat_eq, ◌==◌}
+use Rattle.std.proofs.Common.{◌≡◌, ◌+◌, ℕ, suc, Bool, true, false, if◌then◌else◌, List, [], ◌∷◌, ◌++◌, length, Option, Some, None, refl, sym, ap, ◌∙◌, subst, arith}
+use Rattle.std.specs.Prelude.{nat_eq, ◌==◌}
 use Rattle.std.proofs.lemmas.Bool.Decides.{nat_tests}
 use Rattle.ws_value.specs.declared.ids.PortId.{PortId}
 use Rattle.ws_value.specs.declared.value.Message.{Message}
@@ -14,29 +14,32 @@ use Rattle.ws_realm.specs.declared.realm.Why.TheVariants.{NoMemory}
 use Rattle.ws_node.specs.declared.node.Entrance.{Entrance}
 use Rattle.ws_node.specs.declared.node.Input.{Input}
 use Rattle.ws_node.specs.declared.node.Node.{Node}
-use Rattle.ws_node.specs.Edges.{TakesEnd, TakesNone, TakesAbove, NoneAbove, TookAbove, TakesBelow, NoneBelow, TookBelow, Brings, WaitsAt, Waiting, NoRoom, WaitsAbove, WaitsBelow, Waits, waits_by, broken_by, had_as, had_entrance, takes_more, with_above, with_below}
+use Rattle.ws_node.specs.Edges.{TakesEnd, TakesNone, TakesAbove, TookAbove, TakesBelow, TookBelow, Brings, Waiting, NoRoom, WaitsAbove, WaitsBelow, Waits, waits_by, broken_by, had_as, had_entrance, takes_more, with_above, with_below, BringsUp, broken_after}
 use Rattle.ws_node.specs.Messages.{as_fair}
 use Rattle.ws_node.specs.Moves.{Asks, stopped_by}
 use Rattle.ws_node.specs.Node.{port_below}
 
 -- a look found none
-pub looked : (e f : AtEdge) → f.to ≡ e.to → f.waiting ≡ e.waiting → f.from.row ≡ e.from.row → f.from.looks ≡ e.from.looks + 1 → length e.from.received ≡ f.from.seen
+pub looked : (e f : AtEdge) → f.to ≡ e.to → f.waiting ≡ e.waiting → f.traced ≡ e.traced → f.from.row ≡ e.from.row → f.from.looks ≡ e.from.looks + 1 → length e.from.received ≡ f.from.seen
     → f.from.received ≡ e.from.received → TakesNone e f
-looked e f to waiting row looks none same =
-    record { to = to; waiting = waiting; row = row; received = same; looked = (omega (arith, looks), ap length same ∙ none) }
+looked e f to waiting traced row looks none same =
+    record { to = to; waiting = waiting; traced = traced; row = row; received = same; looked = (omega (arith, looks), ap length same ∙ none) }
 
 pub brings-as : (m : Message) (i : Input) (a b : Node) → i ≡ broken_by m a.entrance.input → Asks (Deliver source_port m) (record a { entrance = record a.entrance { input = i } }) b → Brings m a b
 brings-as m i a b e h = subst (λ (x : Input). Asks (Deliver source_port m) (record a { entrance = record a.entrance { input = x } }) b) e h
+
+pub brings-up-as : (port : PortId) (m : Message) (t : Bool) (a b : Node) → t ≡ broken_after m a.exit.broken → Asks (Deliver port m) (record a { exit = record a.exit { broken = t } }) b → BringsUp port m a b
+brings-up-as port m t a b e h = subst (λ (x : Bool). Asks (Deliver port m) (record a { exit = record a.exit { broken = x } }) b) e h
 
 pub took-above : (a b : Node) (m x : Message) (e f : AtEdge) → a.core.stopped ≡ None → takes_more a.entrance.input ≡ true → a.entrance.above ≡ Some e → TakesEnd m e f → x ≡ as_fair m
     → Brings x (with_above f a) b → TakesAbove true a b
 took-above a b m x e f goes more is took fair h = TookAbove refl goes more m e f is took (subst (λ (z : Message). Brings z (with_above f a) b) fair h)
 
 pub took-below : (a b : Node) (port : PortId) (m x : Message) (e f : AtEdge) → a.core.stopped ≡ None → a.exit.below ≡ Some e → TakesEnd m e f → port ≡ port_below a.entrance → x ≡ as_fair m
-    → Asks (Deliver port x) (with_below f a) b → TakesBelow true a b
+    → BringsUp port x (with_below f a) b → TakesBelow true a b
 took-below a b port m x e f goes is took at fair h =
     TookBelow refl goes m e f is took
-    (subst (λ (z : Message). Asks (Deliver (port_below a.entrance) z) (with_below f a) b) fair (subst (λ (c : PortId). Asks (Deliver c x) (with_below f a) b) at h))
+    (subst (λ (z : Message). BringsUp (port_below a.entrance) z (with_below f a) b) fair (subst (λ (c : PortId). BringsUp c x (with_below f a) b) at h))
 
 -- what was posted waits, or finds no room
 

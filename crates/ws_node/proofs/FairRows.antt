@@ -1,14 +1,12 @@
 -- Messages as they go down an edge between nodes of a run: each is taken as it stands.
-use Rattle.std.proofs.Common.{◌≡◌, ℕ, ◌<◌, Bool, true, false, List, [], ◌∷◌, ◌++◌, length, map, refl, sym, ap, ◌∙◌, subst, arith}
+use Rattle.std.proofs.Common.{◌≡◌, ℕ, ◌<◌, Bool, true, false, List, [], ◌∷◌, ◌++◌, length, refl, ap, ◌∙◌, subst, arith}
 use Rattle.std.specs.Prelude.{All, nat_lt, if◌then◌else◌}
 use Rattle.std.proofs.lemmas.List.Elements.{All-nil, All-cons, All-head, All-tail}
-use Rattle.ws_value.specs.declared.fault.Fault.{Fault}
 use Rattle.ws_value.specs.declared.fault.Fault.TheVariants as fault
 use Rattle.ws_value.specs.declared.value.Message.{Message}
 use Rattle.ws_value.specs.declared.value.Message.TheVariants.{Pull, Chunk, Close, Error}
 use Rattle.ws_value.specs.declared.value.Plain.{Plain}
 use Rattle.ws_value.specs.declared.value.Plain.TheVariants.{Undefined, Number, Fault as FaultReason, Pair, Local}
-use Rattle.ws_value.specs.declared.value.Value.{Value}
 use Rattle.ws_value.specs.declared.value.Value.TheVariants.{Plain as PlainValue, Bytes}
 use Rattle.ws_flow.specs.Chains.{Row}
 use Rattle.ws_flow.specs.Parts.{Part}
@@ -19,6 +17,7 @@ use Rattle.ws_steps.specs.PortHistory.{ends_last}
 use Rattle.ws_steps.specs.Queues.{is_empty}
 use Rattle.ws_node_laws.specs.Edges.{goes_down_edge}
 use Rattle.ws_node.specs.Messages.{is_fair, is_fair_reason, as_fair, fairly}
+use Rattle.ws_node.proofs.Firsts.{reasons-append}
 
 abbrev pub IsFairReason : Plain → Type 0
 IsFairReason r = is_fair_reason r ≡ true
@@ -42,13 +41,6 @@ at-all P (x ∷ xs) y zs a = at-all P xs y zs (All-tail P x (xs ++ y ∷ zs) a)
 pub each-all : {A : Type 0} (P Q : A → Type 0) → ((x : A) → P x → Q x) → (xs : List A) → All P xs → All Q xs
 each-all P Q f [] a = All-nil Q
 each-all P Q f (x ∷ xs) a = All-cons Q x xs (f x (All-head P x xs a)) (each-all P Q f xs (All-tail P x xs a))
-
-pub reasons-append : (xs ys : List Message) → reasons_in (xs ++ ys) ≡ reasons_in xs ++ reasons_in ys
-reasons-append [] ys = refl
-reasons-append (Pull ∷ xs) ys = reasons-append xs ys
-reasons-append (Chunk v ∷ xs) ys = reasons-append xs ys
-reasons-append (Close ∷ xs) ys = reasons-append xs ys
-reasons-append (Error r ∷ xs) ys = ap (λ q. r ∷ q) (reasons-append xs ys)
 
 front-empty : (xs ys : List Message) → is_empty (xs ++ ys) ≡ true → is_empty xs ≡ true
 front-empty [] ys e = refl

@@ -62,7 +62,7 @@ module _ (plan : Plan) (share : Share) (first : ℕ) (above below : Option AtEdg
   made = record {
     core = record { realm = realm; stages = opened.stages; first = first; pipes_before = opened.pipes_before; pipe = opened.pipe; stopped = None };
     entrance = record { source = source_of 0; most = most; taken = 0; ahead = 0; asked = None; input = i; above = above };
-    exit = record { sink = opened.sink; abort = opened.abort; output = o; below = below };
+    exit = record { sink = opened.sink; abort = opened.abort; output = o; below = below; broken = false };
   }
 
   pub fresh-by : IsOpened (shape_with plan share x y) (abort_in plan y) opened → realm.slots ≡ run (opening_by (shape_with plan share x y)) empty

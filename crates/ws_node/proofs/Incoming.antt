@@ -1,28 +1,29 @@
 -- What came into a node, and then came, by its input or over an edge.
 use Rattle.std.proofs.Common.{◌≡◌, ◌<◌, ◌≤◌, ◌+◌, ℕ, Bool, true, false, List, [], ◌∷◌, ◌++◌, Option, Some, None, length, refl, sym, ap, ◌∙◌, subst, append-nil, append_assoc, length-append, arith}
 use Rattle.std.specs.List.{concat, All}
-use Rattle.std.proofs.lemmas.List.{map-append}
 use Rattle.std.proofs.lemmas.List.Elements.{All-nil, All-append, All-weaker}
 use Rattle.std.specs.Prelude.{if◌then◌else◌}
 use Rattle.ws_value.specs.declared.value.Message.{Message}
-use Rattle.ws_value.specs.declared.value.Message.TheVariants.{Pull, Chunk, Close, Error}
 use Rattle.ws_value.specs.declared.value.Plain.{Plain}
 use Rattle.ws_edge.specs.Edge.{AtEdge}
 use Rattle.ws_flow.specs.Told.{Mark, Open as MayCome, Closed, Broken, Lost, Told, goes_on, then_told}
 use Rattle.ws_flow.proofs.Cutting.{joined_append}
 use Rattle.ws_flow.proofs.Ends.{told_append}
+use Rattle.ws_flow.proofs.Told.{then_empty}
 use Rattle.ws_flow.specs.Rows.{told_by}
 use Rattle.ws_joined_laws.specs.Reasons.{reasons_in}
 use Rattle.ws_io.proofs.Flow.{Fed-nothing, Fed-then}
-use Rattle.ws_io.specs.Feed.{Feed, IsEmpty, IsEnded, KeepsEnd}
+use Rattle.ws_io.specs.Feed.{Fed, Feed, IsEmpty, IsEnded, KeepsEnd}
 use Rattle.ws_io.specs.Moment.{Moment}
 use Rattle.ws_node.specs.declared.node.Entrance.{Entrance}
 use Rattle.ws_node.specs.declared.node.Input.{Input}
 use Rattle.ws_node.specs.declared.node.Input.TheVariants as input
-use Rattle.ws_node.specs.Messages.{as_fair, fairly}
+use Rattle.ws_node.specs.Messages.{fairly}
 use Rattle.ws_node.specs.Node.{is_edge, nothing_yet, received_at, rows_at, sent_at}
 use Rattle.ws_node.specs.Past.{CameBy, most_of_piece}
-use Rattle.ws_node.specs.Went.{ByEdge, ByInput, ComesIn, EdgeGoes, EndGrows, FromGoes, InputGoes, TakesOn, broken_by}
+use Rattle.ws_node.specs.Went.{ByEdge, ByInput, ComesIn, EdgeGoes, EndGrows, FromGoes, InputGoes, TakesOn, edge_after}
+use Rattle.ws_node.proofs.Fair.{fairly-append}
+use Rattle.ws_node.proofs.Firsts.{reasons-append}
 
 -- nothing is read
 
@@ -38,15 +39,18 @@ KeepsEnd-then (Some f) None h p q = absurd p
 KeepsEnd-then (Some f) (Some g) None p q = absurd q
 KeepsEnd-then (Some f) (Some g) (Some h) p q = q ∙ p
 
-pub input-same : (a : Input) (m : Moment) → is_edge a ≡ false → InputGoes a a nothing_yet m m
-input-same input.Open m e = (refl, refl, KeepsEnd-same m.feed)
-input-same input.Ended m e = (refl, refl, refl, refl)
-input-same input.Failed m e = (refl, refl, refl, refl)
-input-same input.TooLong m e = (refl, refl, refl, refl)
-input-same input.Edge m e = absurd (cc)
-input-same (input.Broken r) m e = absurd (cc)
+input-still : (a : Input) (m₀ m₁ : Moment) → m₁.feed ≡ m₀.feed → m₁.read_faults ≡ m₀.read_faults → is_edge a ≡ false → InputGoes a a nothing_yet m₀ m₁
+input-still input.Open m₀ m₁ f g e = (refl, g, subst (λ q. KeepsEnd m₀.feed q) (sym f) (KeepsEnd-same m₀.feed))
+input-still input.Ended m₀ m₁ f g e = (refl, refl, f, g)
+input-still input.Failed m₀ m₁ f g e = (refl, refl, f, g)
+input-still input.TooLong m₀ m₁ f g e = (refl, refl, f, g)
+input-still input.Edge m₀ m₁ f g e = absurd (cc)
+input-still (input.Broken r) m₀ m₁ f g e = absurd (cc)
 
--- what is read stays what is read, and what is written what is written
+pub input-same : (a : Input) (m : Moment) → is_edge a ≡ false → InputGoes a a nothing_yet m m
+input-same a m e = input-still a m m refl refl e
+
+-- what is read stays what is read
 
 pub input-kind : (a b : Input) (x : Told (List ℕ)) (m₀ m₁ : Moment) → InputGoes a b x m₀ m₁ → (is_edge a ≡ false) × (is_edge b ≡ false)
 input-kind input.Open input.Open x m₀ m₁ g = (refl, refl)
@@ -166,22 +170,12 @@ ends-then a b c t p u q first second =
       sent = second.sent ∙ (ap (λ (ms : List Message). ms ++ q) first.sent ∙ append_assoc (sent_at a) p q);
     }
 
-pub fairly-then : (t u : List Message) → fairly (t ++ u) ≡ fairly t ++ fairly u
-fairly-then t u = map-append as_fair t u
-
 pub told-fairly : (t u : List Message) → told_by (fairly (t ++ u)) ≡ then_told (told_by (fairly t)) (told_by (fairly u))
-told-fairly t u = ap told_by (fairly-then t u) ∙ told_append (fairly t) (fairly u)
-
-pub reasons-then : (t u : List Message) → reasons_in (t ++ u) ≡ reasons_in t ++ reasons_in u
-reasons-then [] u = refl
-reasons-then (Pull ∷ t) u = reasons-then t u
-reasons-then (Chunk v ∷ t) u = reasons-then t u
-reasons-then (Close ∷ t) u = reasons-then t u
-reasons-then (Error r ∷ t) u = ap (λ (rs : List Plain). r ∷ rs) (reasons-then t u)
+told-fairly t u = ap told_by (fairly-append t u) ∙ told_append (fairly t) (fairly u)
 
 edge-then : (a b c : Input) (t u : List Message) → EdgeGoes a b t → EdgeGoes b c u → EdgeGoes a c (t ++ u)
-edge-then input.Edge b c t u first second = subst (λ (rs : List Plain). c ≡ broken_by rs) (sym (reasons-then t u)) (by (reasons_in t) first) where
-  by : (rs : List Plain) → b ≡ broken_by rs → c ≡ broken_by (rs ++ reasons_in u)
+edge-then input.Edge b c t u first second = subst (λ (rs : List Plain). c ≡ edge_after rs) (sym (reasons-append t u)) (by (reasons_in t) first) where
+  by : (rs : List Plain) → b ≡ edge_after rs → c ≡ edge_after (rs ++ reasons_in u)
   by [] e = subst (λ (i : Input). EdgeGoes i c u) e second
   by (r ∷ rs) e = subst (λ (i : Input). EdgeGoes i c u) e second
 edge-then (input.Broken r) b c t u first second = subst (λ (i : Input). EdgeGoes i c u) first second
@@ -190,7 +184,7 @@ edge-then input.Ended b c t u first second = absurd first
 edge-then input.Failed b c t u first second = absurd first
 edge-then input.TooLong b c t u first second = absurd first
 
-broken-edge : (rs : List Plain) → is_edge (broken_by rs) ≡ true
+broken-edge : (rs : List Plain) → is_edge (edge_after rs) ≡ true
 broken-edge [] = refl
 broken-edge (r ∷ rs) = refl
 
@@ -214,7 +208,7 @@ takes-then a b c x y m₀ m₁ m₂ first second =
       came_is = told-then x y _ _ first.came_is second.came_is ∙ sym (told-fairly first.taken second.taken);
       short = fewer-pieces x y first.short second.short;
       goes =
-          subst (EdgeGoes a.input c.input) (sym (fairly-then first.taken second.taken))
+          subst (EdgeGoes a.input c.input) (sym (fairly-append first.taken second.taken))
           (edge-then a.input b.input c.input (fairly first.taken) (fairly second.taken) first.goes second.goes);
       unread = (second.unread.0 ∙ first.unread.0, second.unread.1 ∙ first.unread.1);
       counted = second.counted ∙ first.counted;
@@ -243,16 +237,17 @@ read-then a b c x y m₀ m₁ m₂ (ByInput e first) (ByEdge f second) not_edge 
 
 -- nothing came in and nothing went out
 
-pub comes-quietly : (a b : Entrance) (m : Moment) → b.taken ≡ a.taken → b.input ≡ a.input → b.source ≡ a.source → b.most ≡ a.most → b.above ≡ a.above → ComesIn a b m m nothing_yet
-comes-quietly a b m taken same source most above = by (is_edge a.input) refl where
-  by : (t : Bool) → is_edge a.input ≡ t → ComesIn a b m m nothing_yet
+pub comes-still : (a b : Entrance) (m₀ m₁ : Moment) → m₁.feed ≡ m₀.feed → m₁.read_faults ≡ m₀.read_faults → b.taken ≡ a.taken → b.input ≡ a.input → b.source ≡ a.source → b.most ≡ a.most → b.above ≡ a.above
+    → ComesIn a b m₀ m₁ nothing_yet
+comes-still a b m₀ m₁ feed calm taken same source most above = by (is_edge a.input) refl where
+  by : (t : Bool) → is_edge a.input ≡ t → ComesIn a b m₀ m₁ nothing_yet
   by false e =
       ByInput e
       (record {
-        fed = Fed-nothing m.feed;
+        fed = subst (λ q. Fed m₀.feed q []) (sym feed) (Fed-nothing m₀.feed);
         short = All-nil (λ c. length c ≤ 4096);
         counted = omega arith;
-        input = subst (λ x. InputGoes a.input x nothing_yet m m) (sym same) (input-same a.input m e);
+        input = subst (λ x. InputGoes a.input x nothing_yet m₀ m₁) (sym same) (input-still a.input m₀ m₁ feed calm e);
         source = source;
         most = most;
         above = above;
@@ -266,7 +261,7 @@ comes-quietly a b m taken same source most above = by (is_edge a.input) refl whe
         came_is = refl;
         short = All-nil (λ c. length c < 33554432);
         goes = subst (λ x. EdgeGoes a.input x []) (sym same) (edge-same a.input e);
-        unread = (refl, refl);
+        unread = (feed, calm);
         counted = taken;
         source = source;
         most = most;
@@ -279,6 +274,9 @@ comes-quietly a b m taken same source most above = by (is_edge a.input) refl whe
       edge-same input.Ended e = absurd (cc)
       edge-same input.Failed e = absurd (cc)
       edge-same input.TooLong e = absurd (cc)
+
+pub comes-quietly : (a b : Entrance) (m : Moment) → b.taken ≡ a.taken → b.input ≡ a.input → b.source ≡ a.source → b.most ≡ a.most → b.above ≡ a.above → ComesIn a b m m nothing_yet
+comes-quietly a b m taken same source most above = comes-still a b m m refl refl taken same source most above
 
 -- the flow since a node was made goes on
 
@@ -297,3 +295,47 @@ fed-short a b m₀ m₁ x y comes was =
       came : ComesIn a b m₀ m₁ y → All (λ c. length c ≤ most_of_piece a.input) y.items
       came (ByInput e from) = subst (λ (t : Bool). All (λ c. length c ≤ (if t then 33554431 else 4096)) y.items) (sym e) from.short
       came (ByEdge e on) = subst (λ (t : Bool). All (λ c. length c ≤ (if t then 33554431 else 4096)) y.items) (sym e) (as_most y.items on.short)
+
+-- what came in since is counted
+
+stays-joined : (x y : Told (List ℕ)) → y ≡ nothing_yet → concat (then_told x y).items ≡ concat x.items ++ concat y.items
+stays-joined x y e =
+    ap (λ (t : Told (List ℕ)). concat (then_told x t).items) e
+    ∙ (ap (λ (t : Told (List ℕ)). concat t.items) (then_empty x) ∙ (sym (append-nil (concat x.items)) ∙ ap (λ (t : Told (List ℕ)). concat x.items ++ concat t.items) (sym e)))
+
+reads-joined : (i j : Input) (x y : Told (List ℕ)) (m₀ m₁ : Moment) → InputGoes i j y m₀ m₁ → (i ≡ input.Open → x.mark ≡ MayCome) → concat (then_told x y).items ≡ concat x.items ++ concat y.items
+reads-joined input.Open j x y m₀ m₁ h may = (open_then x y (may refl)).1
+reads-joined input.Ended j x y m₀ m₁ h may = stays-joined x y h.1
+reads-joined input.Failed j x y m₀ m₁ h may = stays-joined x y h.1
+reads-joined input.TooLong j x y m₀ m₁ h may = stays-joined x y h.1
+reads-joined input.Edge j x y m₀ m₁ h may = absurd h
+reads-joined (input.Broken r) j x y m₀ m₁ h may = absurd h
+
+pub fed-counted : (a b : Entrance) (m₀ m₁ : Moment) (x y : Told (List ℕ)) → ComesIn a b m₀ m₁ y → (a.input ≡ input.Open → x.mark ≡ MayCome) → (is_edge a.input ≡ false → a.taken ≡ length (concat x.items))
+    → is_edge b.input ≡ false → b.taken ≡ length (concat (then_told x y).items)
+fed-counted a b m₀ m₁ x y (ByInput e from) may was now =
+    let joined = reads-joined a.input b.input x y m₀ m₁ from.input may in
+    let before = was e in
+    let counted = from.counted in
+    let long = ap length joined ∙ length-append (concat x.items) (concat y.items) in
+    omega (arith, before, counted, long)
+fed-counted a b m₀ m₁ x y (ByEdge e on) may was now = absurd (let k : is_edge b.input ≡ true = edge-kind a.input b.input (fairly on.taken) on.goes in cc)
+
+-- an input that may be read was before, and of what came no end was told
+reads-on : (i j : Input) (y : Told (List ℕ)) (m₀ m₁ : Moment) → InputGoes i j y m₀ m₁ → j ≡ input.Open → (i ≡ input.Open) × (y.mark ≡ MayCome)
+reads-on input.Open input.Open y m₀ m₁ h e = (refl, h.0)
+reads-on input.Open input.Ended y m₀ m₁ h e = absurd (cc)
+reads-on input.Open input.Failed y m₀ m₁ h e = absurd (cc)
+reads-on input.Open input.TooLong y m₀ m₁ h e = absurd (cc)
+reads-on input.Open input.Edge y m₀ m₁ h e = absurd h
+reads-on input.Open (input.Broken r) y m₀ m₁ h e = absurd h
+reads-on input.Ended j y m₀ m₁ h e = absurd (let f : input.Ended ≡ input.Open = sym h.0 ∙ e in cc)
+reads-on input.Failed j y m₀ m₁ h e = absurd (let f : input.Failed ≡ input.Open = sym h.0 ∙ e in cc)
+reads-on input.TooLong j y m₀ m₁ h e = absurd (let f : input.TooLong ≡ input.Open = sym h.0 ∙ e in cc)
+reads-on input.Edge j y m₀ m₁ h e = absurd h
+reads-on (input.Broken r) j y m₀ m₁ h e = absurd h
+
+pub fed-reads : (a b : Entrance) (m₀ m₁ : Moment) (x y : Told (List ℕ)) → ComesIn a b m₀ m₁ y → (a.input ≡ input.Open → x.mark ≡ MayCome) → b.input ≡ input.Open → (then_told x y).mark ≡ MayCome
+fed-reads a b m₀ m₁ x y (ByInput e from) may now = let o = reads-on a.input b.input y m₀ m₁ from.input now in (open_then x y (may o.0)).0 ∙ o.1
+fed-reads a b m₀ m₁ x y (ByEdge e on) may now =
+    absurd (let k : is_edge b.input ≡ true = edge-kind a.input b.input (fairly on.taken) on.goes in let f : is_edge b.input ≡ false = ap is_edge now in cc)

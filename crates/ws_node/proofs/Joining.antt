@@ -1,5 +1,5 @@
 -- The nodes of a run with workers over any number of turns: their edges stay theirs, and meet at the end.
-use Rattle.std.proofs.Common.{◌≡◌, ◌+◌, ◌≤◌, ℕ, zero, suc, ℤ, pos, negsuc, Bool, true, false, List, [], ◌∷◌, ◌++◌, length, map, get_or, set, nat_abs, Option, Some, None, refl, sym, ap, ◌∙◌, subst, append-nil, length-append, arith}
+use Rattle.std.proofs.Common.{◌≡◌, ◌+◌, ◌≤◌, ℕ, zero, suc, ℤ, pos, negsuc, Bool, true, List, [], ◌∷◌, ◌++◌, length, map, get_or, set, nat_abs, Option, Some, None, refl, sym, ap, ◌∙◌, subst, append-nil, length-append, arith}
 use Rattle.std.specs.Prelude.{int_le, is_some}
 use Rattle.std.proofs.lemmas.Bool.{and_parts}
 use Rattle.atomic_table.specs.Seated.{TableId}
@@ -14,13 +14,15 @@ use Rattle.ws_chain_laws.specs.Chain.{Origin, FromChunks, FromBytes, FromPort, T
 use Rattle.ws_node.specs.declared.node.Entrance.{Entrance}
 use Rattle.ws_node.specs.declared.node.Exit.{Exit}
 use Rattle.ws_node.specs.declared.node.Node.{Node}
+use Rattle.ws_node.specs.Near.{IsHead}
 use Rattle.ws_node.specs.Node.{feeds_edge, is_edge, rows_at}
 use Rattle.ws_node.specs.Nodes.{Each, AreEnds, JoinedAt, AreJoined, HaveMet, AllHaveMet, HaveMetUpTo, AreNewFrom, AreNew, AllGo, MiddleGoes, Nodes, any_bytes, of_input, of_neither, of_output}
 use Rattle.ws_node.specs.Opening.{IsAccepted}
 use Rattle.ws_node.specs.Past.{Driven, FeedsAs, IsFedAs, IsNew, IsUnused}
 use Rattle.ws_node.specs.Shares.{middle_of, stages_ahead_of}
-use Rattle.ws_node.specs.Went.{GoesOut, ToOutput, ToEdge, Went}
-use Rattle.ws_node.proofs.Going.{came-kind, went-kind, went-same, went-then}
+use Rattle.ws_node.proofs.Going.{came-kind, went-kind, went-same, went-then, head-stays}
+use Rattle.ws_node.specs.Turns.{IsAlone}
+use Rattle.ws_node.specs.Went.{ComesIn, ByInput, ByEdge, GoesOut, ToOutput, ToEdge, Went}
 use Rattle.ws_node.proofs.SinceNew.{by-edge, to-edge}
 
 -- a node that is fed by an edge, or feeds one, has the end of it
@@ -45,6 +47,25 @@ above-some n d e = fed d.shape.origin n.entrance d.since.led.is_of.from e
 pub kinds-stay : (a b : Node) (m₀ m₁ : Moment) (p q : List ℕ → Type 0) → Went a b m₀ m₁ p q
     → (is_edge b.entrance.input ≡ is_edge a.entrance.input) × (feeds_edge b.exit.output ≡ feeds_edge a.exit.output)
 kinds-stay a b m₀ m₁ p q w = (came-kind a.entrance b.entrance w.read m₀ m₁ w.from, went-kind a.exit b.exit w.went w.gain w.out m₀ m₁ p q w.into)
+
+-- so one without edges has none
+pub alone-stays : (a b : Node) (m₀ m₁ : Moment) (p q : List ℕ → Type 0) → Went a b m₀ m₁ p q → IsAlone a → IsAlone b
+alone-stays a b m₀ m₁ p q w alone = record {
+  input = (kinds-stay a b m₀ m₁ p q w).0 ∙ alone.input;
+  output = (kinds-stay a b m₀ m₁ p q w).1 ∙ alone.output;
+  above = no-end w.from;
+  below = no-other w.into;
+} where
+  no-end : ComesIn a.entrance b.entrance m₀ m₁ w.read → b.entrance.above ≡ None
+  no-end (ByInput e on) = on.above ∙ alone.above
+  no-end (ByEdge e on) = absurd (let f = alone.input in cc)
+
+  no-other : GoesOut a.exit b.exit m₀ m₁ p q w.went w.gain w.out → b.exit.below ≡ None
+  no-other (ToOutput e on) = on.below ∙ alone.below
+  no-other (ToEdge e on) = absurd (let f = alone.output in cc)
+
+pub head-goes : (a b : Node) (m₀ m₁ : Moment) (p q : List ℕ → Type 0) → Went a b m₀ m₁ p q → IsHead a → IsHead b
+head-goes a b m₀ m₁ p q w head = head-stays a b m₀ m₁ p q w.read w.went w.gain w.out w.core.moves.0.stages w.from w.into head
 
 -- where no output is there, any will do
 
@@ -79,6 +100,8 @@ went-any a b m₀ m₁ p q w = record {
   from = w.from;
   into = goes-any a.exit b.exit m₀ m₁ p q w.went w.gain w.out w.into;
   ahead = w.ahead;
+  near = w.near;
+  short = w.short;
   stays = w.stays;
 }
 
@@ -148,14 +171,14 @@ pub joined-snoc : (upper last lower : Option AtEdge) (ns : List Node) (n : Node)
 joined-snoc upper last lower [] n j e k = (subst (λ q. JoinedAt upper q) (sym e) j, k)
 joined-snoc upper last lower (x ∷ ns) n (j, js) e k = (j, joined-snoc x.exit.below last lower ns n js e k)
 
-abbrev rows_or : TableId × TableId → Option (TableId × TableId) → TableId × TableId
+abbrev rows_or : TableId × TableId × Bool → Option (TableId × TableId × Bool) → TableId × TableId × Bool
 rows_or d None = d
 rows_or d (Some rows) = rows
 
 ends-later : (e e' f f' : AtEdge) → rows_at (Some e') ≡ rows_at (Some e) → rows_at (Some f') ≡ rows_at (Some f) → AreEnds e f → AreEnds e' f'
 ends-later e e' f f' r s j =
-    let upper = ap (λ o. rows_or (e.from.row, e.to.row) o) r in
-    let lower = ap (λ o. rows_or (f.from.row, f.to.row) o) s in
+    let upper = ap (λ o. rows_or (e.from.row, e.to.row, e.traced) o) r in
+    let lower = ap (λ o. rows_or (f.from.row, f.to.row, f.traced) o) s in
     record { down = ap (λ p. p.0) lower ∙ j.down ∙ sym (ap (λ p. p.1) upper); up = ap (λ p. p.0) upper ∙ j.up ∙ sym (ap (λ p. p.1) lower) }
 
 joined-at-later : (a b c d : Option AtEdge) → rows_at b ≡ rows_at a → rows_at d ≡ rows_at c → JoinedAt a c → JoinedAt b d

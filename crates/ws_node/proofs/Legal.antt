@@ -22,7 +22,7 @@ use Rattle.ws_realm.specs.declared.realm.Why.{Why}
 use Rattle.ws_node.specs.declared.node.Node.{Node}
 use Rattle.ws_node.specs.Fair.{AllBringFair}
 use Rattle.ws_node.specs.Node.{given_at, sent_at, waiting_at}
-use Rattle.ws_node.specs.Past.{IsFedAs, FeedsAs, IsGiven, Whole, FirstPart, WithLast, EndHas, EndsHave, Driven}
+use Rattle.ws_node.specs.Past.{IsFedAs, FeedsAs, IsGiven, Whole, FirstPart, WithLast, EndHas, EndsHave, Driven, Since}
 use Rattle.ws_node.specs.Ran.{IsOpenedBy}
 use Rattle.ws_node.specs.Rules.{GoesDown, GoesUp, IsLegal, EachNodeIsLegal}
 use Rattle.ws_node.specs.Shape.{Shape, count_in}
@@ -38,11 +38,14 @@ pub record Rests (shape : Shape) (past : List Entry) (n : Node) : Type 0 where
   pub into : FeedsAs shape.target n.exit
   pub ends : EndsHave shape past n
 
-pub driven-rests : (n : Node) → (d : Driven n) → Rests d.shape d.past n
-driven-rests n d =
-    let led = d.since.led in
+pub since-rests : (shape : Shape) (past : List Entry) (n : Node) → Since shape past n → Rests shape past n
+since-rests shape past n s =
+    let led = s.led in
     let fit = led.is_of.fit in
-    record { few = fit.few; opened = led.ran.opened; fair = led.clones; from = led.is_of.from; into = led.is_of.into; ends = d.since.ends }
+    record { few = fit.few; opened = led.ran.opened; fair = led.clones; from = led.is_of.from; into = led.is_of.into; ends = s.ends }
+
+pub driven-rests : (n : Node) → (d : Driven n) → Rests d.shape d.past n
+driven-rests n d = since-rests d.shape d.past n d.since
 
 -- first parts of legal rows
 

@@ -1,4 +1,6 @@
 mod Examples
+pub mod Acting
+pub mod Ahead
 pub mod Alone
 pub mod Answering
 pub mod Asking
@@ -22,6 +24,7 @@ pub mod Finish
 pub mod Firsts
 pub mod Flow
 pub mod Fresh
+pub mod Giving
 pub mod Going
 pub mod Handing
 pub mod Handled
@@ -30,7 +33,9 @@ pub mod Incoming
 pub mod Outgoing
 pub mod InOrder
 pub mod Legal
+pub mod Nearing
 pub mod MakingNodes
+pub mod Naming
 pub mod Ones
 pub mod Opening
 pub mod Passing

@@ -53,6 +53,7 @@ use Rattle.ws_node.specs.Past.{AllCaused, ArePushed, Counts, Driven, EndHas, End
 use Rattle.ws_node.specs.Ran.{HasRun, IsOwnEntry}
 use Rattle.ws_node.specs.Shape.{AreFit, Shape, count_in, is_from_edge, is_to_edge}
 use Rattle.ws_node.specs.Shares.{abort_in, shape_with}
+use Rattle.ws_node.proofs.Nearing.{near-unused}
 use Rattle.ws_node.proofs.Ran.{few-streams}
 use Rattle.ws_node.proofs.Sharing.{shared-fit}
 
@@ -393,6 +394,9 @@ module _ (shape : Shape) (first : ℕ) (abort : Option ℤ) (n : Node) (fit : Ar
     went_by = λ e. ap told_by (sym (unused-sent n.exit.below f.below));
     short = All-nil (λ (c : List ℕ). length c ≤ most_of_piece n.entrance.input);
     goes_on = λ e. refl;
+    reads_on = λ e. refl;
+    counted = λ e. f.taken;
+    near = λ head. near-unused n f.below;
     flows = subst (λ (ps : List Part). Flows (machines ss) nothing_told ps (then_told nothing_told (held n))) (sym parts-fresh)
         (subst (λ (x : Told (List ℕ)). Flows (machines ss) nothing_told (fresh (machines ss)) (then_told nothing_told x)) (sym held-none)
         (goes_same (machines ss) (fresh (machines ss)) nothing_told (fresh-length (machines ss))));

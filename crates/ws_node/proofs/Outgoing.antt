@@ -16,16 +16,19 @@ use Rattle.ws_node.specs.declared.node.Output.{Output}
 use Rattle.ws_node.specs.declared.node.Output.TheVariants as output
 use Rattle.ws_node.specs.Node.{feeds_edge, nothing_yet, sent_at}
 use Rattle.ws_node.specs.Past.{WentBy}
-use Rattle.ws_node.specs.Went.{AbortGoes, ComesNear, GoesOut, LeftAlone, OutputGoes, PostsOn, ToEdge, ToGoes, ToOutput}
+use Rattle.ws_node.specs.Went.{AbortGoes, ComesNear, EndsShort, GoesOut, LeftAlone, OutputGoes, PostsOn, ToEdge, ToGoes, ToOutput}
 use Rattle.ws_node.proofs.StillOpen.{was-open, still-open}
 use Rattle.ws_node.proofs.Incoming.{ends-same, ends-then, told-then}
 
+output-still : (a : Output) (m₀ m₁ : Moment) → m₁.write_faults ≡ m₀.write_faults → m₁.finished ≡ m₀.finished → feeds_edge a ≡ false → OutputGoes a a [] MayCome m₀ m₁
+output-still output.Open m₀ m₁ f g e = (refl, f, subst (λ q. KeepsTold m₀.finished q) (sym g) (KeepsTold-same m₀.finished))
+output-still output.Finished m₀ m₁ f g e = (refl, record { none = refl; calm = f; finished = g })
+output-still output.Failed m₀ m₁ f g e = (refl, record { none = refl; calm = f; finished = g })
+output-still output.Aborted m₀ m₁ f g e = (refl, record { none = refl; calm = f; finished = g })
+output-still output.Edge m₀ m₁ f g e = absurd (cc)
+
 pub output-same : (a : Output) (m : Moment) → feeds_edge a ≡ false → OutputGoes a a [] MayCome m m
-output-same output.Open m e = (refl, refl, KeepsTold-same m.finished)
-output-same output.Finished m e = (refl, record { none = refl; calm = refl; finished = refl })
-output-same output.Failed m e = (refl, record { none = refl; calm = refl; finished = refl })
-output-same output.Aborted m e = (refl, record { none = refl; calm = refl; finished = refl })
-output-same output.Edge m e = absurd (cc)
+output-same a m e = output-still a m m refl refl e
 
 pub output-kind : (a b : Output) (g : List ℕ) (o : Mark) (m₀ m₁ : Moment) → OutputGoes a b g o m₀ m₁ → (feeds_edge a ≡ false) × (feeds_edge b ≡ false)
 output-kind output.Open output.Open g o m₀ m₁ h = (refl, refl)
@@ -142,7 +145,7 @@ failed-stays output.Aborted c h n m₁ m₂ g e = absurd (cc)
 failed-stays output.Edge c h n m₁ m₂ g e = absurd (cc)
 
 -- bytes go on only behind what was written whole
-opened : (b c : Output) (h : List ℕ) (n : Mark) (m₁ m₂ : Moment) → OutputGoes b c h n m₁ m₂ → 0 < length h → b ≡ output.Open
+pub opened : (b c : Output) (h : List ℕ) (n : Mark) (m₁ m₂ : Moment) → OutputGoes b c h n m₁ m₂ → 0 < length h → b ≡ output.Open
 opened output.Open c h n m₁ m₂ g some = refl
 opened output.Finished c h n m₁ m₂ (i, l) some = absurd (let none = ap length l.none in omega arith)
 opened output.Failed c h n m₁ m₂ (i, l) some = absurd (let none = ap length l.none in omega arith)
@@ -163,7 +166,7 @@ more-behind x y = by x.items x.mark where
   by xs Broken = ([], sym (append-nil xs))
   by xs Lost = ([], sym (append-nil xs))
 
-open_items : (x y : Told (List ℕ)) → x.mark ≡ MayCome → (then_told x y).items ≡ x.items ++ y.items
+pub open_items : (x y : Told (List ℕ)) → x.mark ≡ MayCome → (then_told x y).items ≡ x.items ++ y.items
 open_items x y e = grind arith
 
 -- what stands before and behind
@@ -198,6 +201,44 @@ stops-behind l l' x y g h mark whole exact at =
       to = omega arith;
       fewer = omega arith;
     }
+
+-- so of the chunk that holds the last byte
+
+short-first : (x y : Told (List ℕ)) (g : List ℕ) → EndsShort x.items g → EndsShort (then_told x y).items g
+short-first x y g at =
+    let more = more-behind x y in
+    record {
+      before = at.before;
+      chunk = at.chunk;
+      after = at.after ++ more.0;
+      split = more.1 ∙ (ap (λ q. q ++ more.0) at.split ∙ append_assoc at.before (at.chunk ∷ at.after) more.0);
+      from = at.from;
+      to = at.to;
+      short = at.short;
+    }
+
+short-behind : (x y : Told (List ℕ)) (g h : List ℕ) → x.mark ≡ MayCome → concat x.items ≡ g → EndsShort y.items h → EndsShort (then_told x y).items (g ++ h)
+short-behind x y g h mark whole at =
+    let from = at.from in
+    let to = at.to in
+    let long = length-append g h in
+    let all : length (concat (x.items ++ at.before)) ≡ length g + length (concat at.before) =
+    ap length (joined_append x.items at.before) ∙ (length-append (concat x.items) (concat at.before) ∙ ap (λ q. length q + length (concat at.before)) whole) in
+    record {
+      before = x.items ++ at.before;
+      chunk = at.chunk;
+      after = at.after;
+      split = open_items x y mark ∙ (ap (λ q. x.items ++ q) at.split ∙ sym (append_assoc x.items at.before (at.chunk ∷ at.after)));
+      from = omega arith;
+      to = omega arith;
+      short = at.short;
+    }
+
+pub short-then : (x y : Told (List ℕ)) (g h : List ℕ) → (0 < length h → (concat x.items ≡ g) × (x.mark ≡ MayCome)) → (0 < length g → EndsShort x.items g) → (0 < length h → EndsShort y.items h)
+    → 0 < length (g ++ h) → EndsShort (then_told x y).items (g ++ h)
+short-then x y g [] whole first second some =
+    subst (EndsShort (then_told x y).items) (sym (append-nil g)) (short-first x y g (first (subst (λ q. 0 < length q) (append-nil g) some)))
+short-then x y g (z ∷ h) whole first second some = let all = whole (omega arith) in short-behind x y g (z ∷ h) all.1 all.0 (second (omega arith))
 
 near-last : (l l' l'' : ℕ) (x y : Told (List ℕ)) (g h : List ℕ) (b c : Output) → (b ≡ output.Failed → (c ≡ output.Failed) × (h ≡ []))
     → (0 < length h → (concat x.items ≡ g) × (x.mark ≡ MayCome)) → ComesNear l l' x.items g b → ComesNear l' l'' y.items h c → 0 < length (g ++ h)
@@ -288,16 +329,24 @@ outs-then a b c x y g h o n m₀ m₁ m₂ p q r (ToEdge e first) (ToEdge f seco
 outs-then a b c x y g h o n m₀ m₁ m₂ p q r (ToOutput e first) (ToEdge f second) = absurd (let k : feeds_edge b.output ≡ false = (output-kind a.output b.output g o m₀ m₁ first.output).1 in cc)
 outs-then a b c x y g h o n m₀ m₁ m₂ p q r (ToEdge e first) (ToOutput f second) = absurd (let k : feeds_edge b.output ≡ feeds_edge a.output = ap (λ (z : Output). feeds_edge z) first.output in cc)
 
-pub goes-quietly : (a b : Exit) (m : Moment) (p q : List ℕ → Type 0) → Gains p q [] → b.output ≡ a.output → b.abort ≡ a.abort → b.sink ≡ a.sink → b.below ≡ a.below
-    → GoesOut a b m m p q nothing_yet [] MayCome
-goes-quietly a b m p q gained same abort sink below = by (feeds_edge a.output) refl where
-  by : (t : Bool) → feeds_edge a.output ≡ t → GoesOut a b m m p q nothing_yet [] MayCome
+-- where more was written, all that went out before was
+pub outs-whole : (a b c : Exit) (x y : Told (List ℕ)) (g h : List ℕ) (o n : Mark) (m₀ m₁ m₂ : Moment) (p q r : List ℕ → Type 0) → GoesOut a b m₀ m₁ p q x g o → GoesOut b c m₁ m₂ q r y h n
+    → 0 < length h → (concat x.items ≡ g) × (x.mark ≡ MayCome)
+outs-whole a b c x y g h o n m₀ m₁ m₂ p q r (ToOutput e first) (ToOutput f second) some = wrote-all a.output b.output c.output g h o n x m₀ m₁ m₂ first.output second.output first.written some
+outs-whole a b c x y g h o n m₀ m₁ m₂ p q r (ToOutput e first) (ToEdge f second) some = absurd (let none = ap length second.alone.none in omega arith)
+outs-whole a b c x y g h o n m₀ m₁ m₂ p q r (ToEdge e first) (ToEdge f second) some = absurd (let none = ap length second.alone.none in omega arith)
+outs-whole a b c x y g h o n m₀ m₁ m₂ p q r (ToEdge e first) (ToOutput f second) some = absurd (let k : feeds_edge b.output ≡ feeds_edge a.output = ap (λ (z : Output). feeds_edge z) first.output in cc)
+
+pub goes-still : (a b : Exit) (m₀ m₁ : Moment) (p q : List ℕ → Type 0) → m₁.write_faults ≡ m₀.write_faults → m₁.finished ≡ m₀.finished → Gains p q [] → b.output ≡ a.output → b.abort ≡ a.abort → b.sink ≡ a.sink
+    → b.below ≡ a.below → GoesOut a b m₀ m₁ p q nothing_yet [] MayCome
+goes-still a b m₀ m₁ p q calm finished gained same abort sink below = by (feeds_edge a.output) refl where
+  by : (t : Bool) → feeds_edge a.output ≡ t → GoesOut a b m₀ m₁ p q nothing_yet [] MayCome
   by false e =
       ToOutput e
       (record {
         gained = gained;
         written = (refl, refl);
-        output = subst (λ x. OutputGoes a.output x [] MayCome m m) (sym same) (output-same a.output m e);
+        output = subst (λ x. OutputGoes a.output x [] MayCome m₀ m₁) (sym same) (output-still a.output m₀ m₁ calm finished e);
         abort = subst (λ x. AbortGoes a.abort x [] [] b.output) (sym abort) (abort-same a.abort [] b.output);
         sink = sink;
         below = below;
@@ -312,10 +361,14 @@ goes-quietly a b m p q gained same abort sink below = by (feeds_edge a.output) r
         gained = gained;
         output = same;
         may_come = refl;
-        alone = record { none = refl; calm = refl; finished = refl };
+        alone = record { none = refl; calm = calm; finished = finished };
         abort = abort;
         sink = sink;
       })
+
+pub goes-quietly : (a b : Exit) (m : Moment) (p q : List ℕ → Type 0) → Gains p q [] → b.output ≡ a.output → b.abort ≡ a.abort → b.sink ≡ a.sink → b.below ≡ a.below
+    → GoesOut a b m m p q nothing_yet [] MayCome
+goes-quietly a b m p q gained same abort sink below = goes-still a b m m p q refl refl gained same abort sink below
 
 pub fed-went-by : (a b : Exit) (m₀ m₁ : Moment) (p q : List ℕ → Type 0) (x y : Told (List ℕ)) (g : List ℕ) (o : Mark) → GoesOut a b m₀ m₁ p q y g o → WentBy a x → WentBy b (then_told x y)
 fed-went-by a b m₀ m₁ p q x y g o (ToOutput e to) went now = absurd (let k : feeds_edge b.output ≡ false = (output-kind a.output b.output g o m₀ m₁ to.output).1 in cc)

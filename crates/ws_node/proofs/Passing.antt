@@ -1,19 +1,19 @@
 -- Nodes in a chain that pass messages on: what each owes of its own ends, and what the law of joined nodes asks of all of them.
-use Rattle.std.proofs.Common.{◌≡◌, ℕ, ℤ, ◌≤◌, true, false, List, [], ◌∷◌, ◌++◌, length, map, Option, refl, sym, ap, ◌∙◌, subst}
+use Rattle.std.proofs.Common.{◌≡◌, ℕ, ℤ, ◌≤◌, true, false, List, [], ◌∷◌, ◌++◌, length, Option, refl, ap, subst}
 use Rattle.std.specs.Prelude.{All}
 use Rattle.std.proofs.lemmas.List.Elements.{All-nil, All-cons}
 use Rattle.ws_value.specs.declared.value.Message.{Message}
 use Rattle.ws_value.specs.declared.value.Plain.{Plain}
 use Rattle.ws_flow.specs.declared.plan.Stage.{Stage}
-use Rattle.ws_flow.specs.Chains.{Host, Row, Member, Keeps, all_stages}
+use Rattle.ws_flow.specs.Chains.{Host, Row, all_stages}
 use Rattle.ws_flow.specs.Parts.{Part, Flows}
 use Rattle.ws_flow.specs.Plans.{sees_known_chunks}
 use Rattle.ws_flow.specs.Rows.{told_by}
 use Rattle.ws_flow.specs.Stages.{machines}
-use Rattle.ws_flow.specs.Told.{bytes_of, Told, told, then_told, IsBefore}
-use Rattle.ws_joined_laws.specs.Condition.{AreBytes, AreShort, AreInRange, ChainedIf, OnwardIf}
+use Rattle.ws_flow.specs.Told.{bytes_of, Told, then_told, IsBefore}
+use Rattle.ws_joined_laws.specs.Condition.{AreBytes, AreShort, AreInRange, OnwardIf}
 use Rattle.ws_joined_laws.specs.Ends.{StopsNear}
-use Rattle.ws_joined_laws.specs.Finished.{CausesIf, KeepsNear, LastStops, NodesTell}
+use Rattle.ws_joined_laws.specs.Finished.{CausesIf, KeepsNear, NodesTell}
 use Rattle.ws_joined_laws.specs.Joined.{Node, members, AreCounted}
 use Rattle.ws_joined_laws.specs.Reasons.{reasons_in, Finds, HasCause}
 use Rattle.ws_steps.specs.PortHistory.{ends_last}

@@ -12,7 +12,7 @@ use Rattle.ws_flow.specs.Machines.{Machine}
 use Rattle.ws_flow.specs.Parts.{Goes}
 use Rattle.ws_flow.specs.Rows.{told_by}
 use Rattle.ws_flow.specs.Stages.{machines}
-use Rattle.ws_flow.specs.Told.{Mark, Open as MayCome, Told, told, then_told}
+use Rattle.ws_flow.specs.Told.{Mark, Open as MayCome, Told, then_told}
 use Rattle.ws_io.proofs.Flow.{Gains-nothing, Fed-nothing}
 use Rattle.ws_io.specs.Moment.{Moment}
 use Rattle.ws_port.specs.Ends.{Posted, Taken}
@@ -27,16 +27,17 @@ use Rattle.ws_node.specs.declared.node.Exit.{Exit}
 use Rattle.ws_node.specs.declared.node.Input.{Input}
 use Rattle.ws_node.specs.declared.node.Input.TheVariants as input
 use Rattle.ws_node.specs.declared.node.Node.{Node}
-use Rattle.ws_node.specs.declared.node.Output.{Output}
 use Rattle.ws_node.specs.declared.node.Output.TheVariants as output
 use Rattle.ws_node.specs.Edges.{PostsEnd, posts_at, PostsBoth, TakesNone}
+use Rattle.ws_node.specs.Near.{IsHead, IsNear}
 use Rattle.ws_node.specs.Node.{is_edge, feeds_edge, received_at, sent_at, waiting_at, given_at, rows_at, held, lies_in, lying, nothing_yet, parts, stages_in, works_in}
-use Rattle.ws_node.specs.Past.{ArePushed, HasOne, IsFedAs, FeedsAs, IsGiven, IsDelivered, EndHas, EndsHave, Led, Since}
+use Rattle.ws_node.specs.Past.{IsFedAs, FeedsAs, IsGiven, IsDelivered, EndHas, EndsHave, Led, Since}
 use Rattle.ws_node.specs.Shape.{Shape}
-use Rattle.ws_node.specs.Went.{InputGoes, OutputGoes, EdgeGoes, EndGrows, CoreGoes, ComesIn, ByInput, ByEdge, GoesOut, ToOutput, ToEdge, Went}
+use Rattle.ws_node.specs.Went.{EdgeGoes, EndGrows, EndsShort, CoreGoes, ComesIn, ByInput, ByEdge, GoesOut, ToOutput, ToEdge, Went}
 use Rattle.ws_node.proofs.Changes.{led-at-above, led-below}
 use Rattle.ws_node.proofs.Going.{input-same, output-same, abort-same, as-many, going-acts}
 use Rattle.ws_node.proofs.Handled.{Handled}
+use Rattle.ws_node.proofs.Nearing.{near-same}
 
 -- An end, once a first part of what waited there was posted
 pub record Grows (o q : Option AtEdge) : Type 0 where
@@ -53,14 +54,14 @@ grows-same o = record {
   given = refl;
 }
 
-rows-same : (e f : AtEdge) → f.from.row ≡ e.from.row → f.to.row ≡ e.to.row → rows_at (Some f) ≡ rows_at (Some e)
-rows-same e f from to = rw (from, to) refl
+rows-same : (e f : AtEdge) → f.from.row ≡ e.from.row → f.to.row ≡ e.to.row → f.traced ≡ e.traced → rows_at (Some f) ≡ rows_at (Some e)
+rows-same e f from to traced = rw (from, to, traced) refl
 
 posts-end : (t : Bool) (e f : AtEdge) → PostsEnd t e f → Grows (Some e) (Some f)
 posts-end t e f h = record {
   posted = h.first.posted;
   end = record {
-    rows = rows-same e f (ap (λ (x : Taken). x.row) h.from) h.row;
+    rows = rows-same e f (ap (λ (x : Taken). x.row) h.from) h.row h.traced;
     received = ap (λ (x : Taken). x.received) h.from ∙ sym (append-nil e.from.received);
     sent = h.first.sent;
   };
@@ -78,7 +79,7 @@ pub looked-grow : (e f : AtEdge) → TakesNone e f → Grows (Some e) (Some f)
 looked-grow e f h = record {
   posted = [];
   end = record {
-    rows = rows-same e f h.row (ap (λ (x : Posted). x.row) h.to);
+    rows = rows-same e f h.row (ap (λ (x : Posted). x.row) h.to) h.traced;
     received = h.received ∙ sym (append-nil e.from.received);
     sent = ap (λ (x : Posted). x.sent) h.to ∙ sym (append-nil e.to.sent);
   };
@@ -156,9 +157,11 @@ pub record GoesBy (a b : Node) (old new : Moment) (p q : List ℕ → Type 0) : 
   pub into : GoesOut a.exit b.exit old new p q went gain out
   pub ahead : a.core.stages.items ≡ [] → is_edge a.entrance.input ≡ false → feeds_edge a.exit.output ≡ false
       → a.entrance.ahead + length (concat read.items) ≤ length gain + b.entrance.ahead
+  pub near : IsHead a → (pieces : ℕ) → IsNear pieces a → IsNear (pieces + length read.items) b
+  pub short : is_edge a.entrance.input ≡ false → 0 < length gain → EndsShort went.items gain
 
 pub goes-of : (a b : Node) (old new : Moment) (p q : List ℕ → Type 0) → Went a b old new p q → GoesBy a b old new p q
-goes-of a b old new p q w = record { read = w.read; went = w.went; gain = w.gain; out = w.out; core = w.core; from = w.from; into = w.into; ahead = w.ahead }
+goes-of a b old new p q w = record { read = w.read; went = w.went; gain = w.gain; out = w.out; core = w.core; from = w.from; into = w.into; ahead = w.ahead; near = w.near; short = w.short }
 
 pub went-of : (a b : Node) (old new : Moment) (p q : List ℕ → Type 0) → a.core.stopped ≡ None → GoesBy a b old new p q → Went a b old new p q
 went-of a b old new p q goes w = record {
@@ -170,6 +173,8 @@ went-of a b old new p q goes w = record {
   from = w.from;
   into = w.into;
   ahead = w.ahead;
+  near = w.near;
+  short = w.short;
   stays = going-acts a b old new w.read w.gain goes;
 }
 
@@ -272,6 +277,8 @@ goes-posts shape past a q r m p s g h =
       from = from-posts shape.origin a.entrance q g.posted m s.is_of.from g.end;
       into = into-posts shape.target a.exit r h.posted m p s.is_of.into h.end;
       ahead = λ none input output. omega arith;
+      near = λ head pieces is. near-same a (with_ends q r a) pieces (λ e. e) h.given (grows-received a.exit.below r h) refl refl is;
+      short = λ fed some. absurd (omega arith);
     }
 
 -- the node is handled so

@@ -40,7 +40,7 @@ use Rattle.ws_node.proofs.Handled.{Handled}
 use Rattle.ws_node.proofs.Handing.{lies_to, heard-lies, unheard-lies, one-quiet, one-heard}
 use Rattle.ws_node.proofs.Ones.{one-more, live-true, one-behind, one-over}
 use Rattle.ws_node.proofs.Settling.{AfterAll, answer_by, ended-as, may-answer, puts-all, the-stage}
-use Rattle.ws_node.proofs.Quiet.{IsNoPost, ends-as}
+use Rattle.ws_node.proofs.Quiet.{IsNoPost, stays-going, ends-as}
 use Rattle.ws_node.proofs.Since.{AfterEvent, MayAsk, OnlyRealm}
 use Rattle.ws_node.proofs.Staged.{count-is, Stepped, pushed-goes, flushed-goes, stopped-goes, over-goes, stages-at, stages}
 use Rattle.ws_node.proofs.Unheard.{IsNoHalf, at-there, at-elsewhere, no-transform, no-flush, none-half}
@@ -115,7 +115,7 @@ module _ (shape : Shape) (past : List Entry) (a : Node) (realm : SeenRealm) (id 
         pushes = λ h. subst (λ (n : ℕ). ArePushed n a.core.stages.items) (sym event.age) (since.pushes goes);
         one = one;
         ends = event.ends unposted since.ends;
-        went = went-quietly a was m p q gained (going-stays a was goes) (record { taken = refl; ahead = λ h. refl; input = refl; output = refl; abort = refl; stages = refl; source = refl; sink = refl; most = refl; pipe = refl; pipes = refl; first = refl; above = refl; below = refl }) on;
+        went = went-quietly a was m p q gained (going-stays a was goes) (record { taken = refl; ahead = λ h. refl; input = refl; output = refl; abort = refl; stages = refl; source = refl; sink = refl; most = refl; pipe = refl; pipes = refl; first = refl; above = refl; below = refl; broken = refl }) on;
       }
 
   -- an event at a stage
@@ -190,6 +190,7 @@ module _ (shape : Shape) (past : List Entry) (a : Node) (realm : SeenRealm) (id 
               first = ap (λ (n : Node). n.core.first) b-is;
               above = ap (λ (n : Node). n.entrance.above) b-is;
               below = ap (λ (n : Node). n.exit.below) b-is;
+              broken = ap (λ (n : Node). n.exit.broken) b-is;
             }
 
         went-on : Goes (machines (stages_in a.core)) nothing_yet (parts a) (lying a) (parts b) (lying b) → Went a b m m p q
@@ -208,7 +209,7 @@ module _ (shape : Shape) (past : List Entry) (a : Node) (realm : SeenRealm) (id 
             one = one-ended before after w v t (hears_in shape 0 (Host id call)) b at.whole (b-items only) (λ l. subst IsLive over l)
                 (λ u us e. b-ahead only ∙ ahead u us e) (b-input only) (heard 0 first_is) (event.short 0 first_is)
                 (λ n o. subst (λ (z : Node). OneAtMost n (behind_at 0 z.core.realm.slots).items) (sym ends) (subst (λ (z : Node). OneAtMost n (behind_at 0 z.core.realm.slots).items) (sym is) o));
-            ends = ends-as shape (past ++ Heard ∷ []) was b (ap (λ (n : Node). n.entrance.above) (b-is only)) (ap (λ (n : Node). n.exit.below) (b-is only)) (λ e. goes) (event.ends tt since.ends);
+            ends = ends-as shape (past ++ Heard ∷ []) was b (ap (λ (n : Node). n.entrance.above) (b-is only)) (ap (λ (n : Node). n.exit.below) (b-is only)) (stays-going was.core.stopped b.core.stopped goes) (event.ends tt since.ends);
             went = went-on only (stopped-goes shape a before after w goes since.led.is_of.stages at.whole b v (b-input only) (b-items only) why.NoMemory live over stopped);
           }
 
@@ -239,7 +240,7 @@ module _ (shape : Shape) (past : List Entry) (a : Node) (realm : SeenRealm) (id 
         one-from n o = all.one n (subst (λ (z : Node). OneAtMost n (behind_at 0 z.core.realm.slots).items) (sym is) o)
 
         pub on : v.pushes ≤ w.pushes + 1 → HasOne b → Goes (machines (stages_in a.core)) nothing_yet (parts a) (lying a) (parts b) (lying b) → Handled shape a b m m p q
-        on some one goes_on = record { past = (past ++ Heard ∷ []) ++ all.more; led = all.led; pushes = pushes-on some; one = one; ends = all.ends (ends-as shape (past ++ Heard ∷ []) was c (ap (λ (n : Node). n.entrance.above) is) (ap (λ (n : Node). n.exit.below) is) (λ e. goes) (event.ends tt since.ends)); went = went-on all.only goes_on }
+        on some one goes_on = record { past = (past ++ Heard ∷ []) ++ all.more; led = all.led; pushes = pushes-on some; one = one; ends = all.ends (ends-as shape (past ++ Heard ∷ []) was c (ap (λ (n : Node). n.entrance.above) is) (ap (λ (n : Node). n.exit.below) is) (stays-going was.core.stopped c.core.stopped goes) (event.ends tt since.ends)); went = went-on all.only goes_on }
 
   heard-transform : (before after : List State) (w : State) → IsAt i a.core.stages.items before w after → (v : Value) (k : ℕ) → k ≤ count_in shape
       → hears_in shape k (Host id (Transform i v)) ≡ only_at (length before) (told (v ∷ []) Open) k

@@ -20,12 +20,9 @@ use Rattle.ws_node.specs.Moves.{Asks, Performed, Refused, Enqueues, NoPiece, Not
 use Rattle.ws_node.specs.Node.{in_bytes}
 use Rattle.ws_node.specs.Past.{EndsHave, IsCause, OneAtMost, Led}
 use Rattle.ws_node.proofs.Quiet.{IsNoMessage}
-use Rattle.ws_node.proofs.Since.{OnlyRealm, MayAsk, own-failed, since-asks, dropped}
+use Rattle.ws_node.proofs.Since.{OnlyRealm, only-then, MayAsk, own-failed, since-asks, dropped}
 use Rattle.ws_node.proofs.Handing.{lies_to}
 use Rattle.ws_node.proofs.Unheard.{alike, unlike}
-
-pub only-then : (a b c : Node) → OnlyRealm a b → OnlyRealm b c → OnlyRealm a c
-only-then a b c f g = record { realm = g.realm; stopped = g.stopped; is = g.is ∙ ap (λ (n : Node). record n { core = record n.core { realm = g.realm; stopped = g.stopped } }) f.is }
 
 pub only-refl : (a : Node) → OnlyRealm a a
 only-refl a = record { realm = a.core.realm; stopped = a.core.stopped; is = refl }

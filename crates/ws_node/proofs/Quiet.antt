@@ -1,5 +1,5 @@
 -- What the ends of a node's edges have is kept by entries that neither tell of a message nor bring one, and by a realm that stops.
-use Rattle.std.proofs.Common.{◌≡◌, ◌≢◌, List, [], ◌∷◌, ◌++◌, Option, Some, None, refl, sym, ap, ◌∙◌, subst, append-nil, append_assoc}
+use Rattle.std.proofs.Common.{◌≡◌, List, [], ◌∷◌, ◌++◌, Option, Some, None, refl, sym, ap, ◌∙◌, subst, append-nil, append_assoc}
 use Rattle.ws_value.specs.declared.ids.PortId.{PortId}
 use Rattle.ws_value.specs.declared.value.Message.{Message}
 use Rattle.ws_edge.specs.Edge.{AtEdge}
@@ -14,8 +14,9 @@ use Rattle.ws_steps.specs.Slots.{Slots, empty}
 use Rattle.ws_chain_laws.specs.Chain.{source_port, sink_port}
 use Rattle.ws_node_laws.specs.Messages.{taken_events, message_by, delivered_to}
 use Rattle.ws_realm.specs.declared.realm.Why.{Why}
+use Rattle.ws_realm.specs.declared.realm.Why.TheVariants.{NoMemory}
 use Rattle.ws_node.specs.declared.node.Node.{Node}
-use Rattle.ws_node.specs.Past.{IsGiven, Whole, FirstPart, WithLast, IsDelivered, HasMessages, EndHas, EndsHave}
+use Rattle.ws_node.specs.Past.{IsGiven, Whole, FirstPart, WithLast, IsDelivered, EndHas, EndsHave}
 use Rattle.ws_node.specs.Shape.{Shape}
 
 -- what a run that is longer by one entry tells of
@@ -64,12 +65,23 @@ pub no-post : (port : PortId) (e : Event) → IsNoPost e → posted_by port e �
 no-post port (Post c m) h = absurd h
 no-post port _ h = refl
 
--- the same ends, of which the same was told and to which the same was delivered, though the realm may have stopped
+-- a realm that may have stopped meanwhile: one that goes on went on before, and one to which memory was wanting wants it still
 
-given-since : (posted other given : List Message) (old new : Option Why) → other ≡ posted → (new ≡ None → old ≡ None) → IsGiven posted given old → IsGiven other given new
+abbrev pub StaysSo : Option Why → Option Why → Type 0
+StaysSo old new = (new ≡ None → old ≡ None) × (old ≡ Some NoMemory → new ≡ Some NoMemory)
+
+pub stays-as : (o : Option Why) → StaysSo o o
+stays-as o = (λ e. e, λ e. e)
+
+pub stays-going : (old new : Option Why) → old ≡ None → StaysSo old new
+stays-going old new goes = (λ e. goes, λ e. absurd (let f : None ≡ Some NoMemory = sym goes ∙ e in cc))
+
+-- the same ends, of which the same was told and to which the same was delivered
+
+given-since : (posted other given : List Message) (old new : Option Why) → other ≡ posted → StaysSo old new → IsGiven posted given old → IsGiven other given new
 given-since posted other given old new e stays (Whole f) = Whole (f ∙ sym e)
-given-since posted other given old new e stays (FirstPart stopped rest f) = FirstPart (λ g. stopped (stays g)) rest (e ∙ f)
-given-since posted other given old new e stays (WithLast stopped first rest f none g) = WithLast (λ h. stopped (stays h)) first rest (e ∙ f) none g
+given-since posted other given old new e stays (FirstPart stopped rest f) = FirstPart (stays.1 stopped) rest (e ∙ f)
+given-since posted other given old new e stays (WithLast stopped first rest f none g) = WithLast (stays.1 stopped) first rest (e ∙ f) none g
 
 delivered-since : (delivered other received : List Message) (old new : Option Why) → other ≡ delivered → (new ≡ None → old ≡ None) → IsDelivered delivered received old
     → IsDelivered other received new
@@ -77,16 +89,16 @@ delivered-since delivered other received old new e stays h =
     record { rest = h.rest; first = h.first ∙ ap (λ (ms : List Message). ms ++ h.rest) (sym e); all = λ f. h.all (stays f) }
 
 pub end-since : (port : PortId) (past ys : List Entry) (old new : Option Why) (o : Option AtEdge) → posted_in port (taken_events ys empty) ≡ posted_in port (taken_events past empty)
-    → delivered_to port ys ≡ delivered_to port past → (new ≡ None → old ≡ None) → EndHas port past old o → EndHas port ys new o
+    → delivered_to port ys ≡ delivered_to port past → StaysSo old new → EndHas port past old o → EndHas port ys new o
 end-since port past ys old new None p d stays h = tt
 end-since port past ys old new (Some e) p d stays h = record {
   given = given-since _ _ _ old new p stays h.given;
-  taken = delivered-since _ _ _ old new d stays h.taken;
+  taken = delivered-since _ _ _ old new d stays.0 h.taken;
 }
 
 pub ends-same : (shape : Shape) (past ys : List Entry) (a b : Node) → ((port : PortId) → posted_in port (taken_events ys empty) ≡ posted_in port (taken_events past empty))
     → ((port : PortId) → delivered_to port ys ≡ delivered_to port past) → b.entrance.above ≡ a.entrance.above → b.exit.below ≡ a.exit.below
-    → (b.core.stopped ≡ None → a.core.stopped ≡ None) → EndsHave shape past a → EndsHave shape ys b
+    → StaysSo a.core.stopped b.core.stopped → EndsHave shape past a → EndsHave shape ys b
 ends-same shape past ys a b posted delivered above below stays h = record {
   above = subst (EndHas source_port ys b.core.stopped) (sym above)
       (end-since source_port past ys a.core.stopped b.core.stopped a.entrance.above (posted source_port) (delivered source_port) stays h.above);
@@ -95,6 +107,6 @@ ends-same shape past ys a b posted delivered above below stays h = record {
 }
 
 -- with the same past, as when only what the host knows of other things changes
-pub ends-as : (shape : Shape) (past : List Entry) (a b : Node) → b.entrance.above ≡ a.entrance.above → b.exit.below ≡ a.exit.below → (b.core.stopped ≡ None → a.core.stopped ≡ None)
+pub ends-as : (shape : Shape) (past : List Entry) (a b : Node) → b.entrance.above ≡ a.entrance.above → b.exit.below ≡ a.exit.below → StaysSo a.core.stopped b.core.stopped
     → EndsHave shape past a → EndsHave shape past b
 ends-as shape past a b above below stays h = ends-same shape past past a b (λ port. refl) (λ port. refl) above below stays h

@@ -1,7 +1,7 @@
 -- What a node does as it reads its input.
 use Rattle.std.proofs.Common.{◌≡◌, ◌+◌, ◌-◌, ◌≤◌, ◌<◌, ℕ, zero, suc, Bool, true, false, List, [], ◌∷◌, ◌++◌, length, Option, Some, None, Result, Ok, Err, refl, sym, ap, ◌∙◌, subst, append-nil, arith}
 use Rattle.std.specs.List.{concat, All}
-use Rattle.std.specs.Prelude.{nat_eq, nat_lt, slice_get}
+use Rattle.std.specs.Prelude.{min, nat_eq, nat_lt, slice_get}
 use Rattle.std.proofs.lemmas.Bool.Decides.{nat_tests}
 use Rattle.std.proofs.lemmas.List.Elements.{All-nil, All-cons}
 use Rattle.ws_value.specs.declared.fault.Fault.TheVariants.{Read as ReadFault, TooMuch}
@@ -21,7 +21,7 @@ use Rattle.ws_io.specs.Faults.{Rose}
 use Rattle.ws_io.specs.Feed.{Feed, Fed, KeepsEnd}
 use Rattle.ws_io.specs.Moment.{Moment, moment}
 use Rattle.ws_io.specs.declared.outside.Failed.{Failed}
-use Rattle.ws_io.proofs.Flow.{Gains-nothing, IsEmpty-kept, KeepsTold-same}
+use Rattle.ws_io.proofs.Flow.{Gains-nothing, IsEmpty-kept}
 use Rattle.ws_stages.specs.State.{State}
 use Rattle.ws_steps.specs.declared.calls.Answer.TheVariants.{Ok as AnswerOk}
 use Rattle.ws_steps.specs.declared.calls.Call.{Call}
@@ -37,23 +37,24 @@ use Rattle.ws_chain_laws.proofs.Nodes.{each_nodes_call_brings}
 use Rattle.ws_realm.specs.declared.realm.Why.{Why}
 use Rattle.ws_realm.specs.declared.realm.Why.TheVariants.{NoMemory}
 use Rattle.ws_node.specs.declared.node.Entrance.{Entrance}
-use Rattle.ws_node.specs.declared.node.Exit.{Exit}
 use Rattle.ws_node.specs.declared.node.Input.{Input}
 use Rattle.ws_node.specs.declared.node.Input.TheVariants as input
 use Rattle.ws_node.specs.declared.node.Node.{Node}
-use Rattle.ws_node.specs.declared.node.Output.{Output}
 use Rattle.ws_node.specs.declared.node.Output.TheVariants as output
 use Rattle.ws_node.specs.Host.{GivesPiece, IsPiece}
 use Rattle.ws_node.specs.Moves.{Asks, Performed, Refused, settles, takes_bytes, Takes, Reads, ReadNot, Wanted, ReadOnce}
-use Rattle.ws_node.specs.Node.{in_bytes, feeds_edge, is_edge, lost_by, coming, coming_behind, lying_by, lies, lies_in, lying, nothing_yet, parts, stages_in, works_in}
+use Rattle.ws_node.specs.Node.{in_bytes, is_edge, lost_by, coming, coming_behind, lying_by, lies, lies_in, lying, nothing_yet, parts, stages_in, works_in}
 use Rattle.ws_node.specs.Past.{EndsHave, IsCause, IsFedAs, IsPull, Counts, ArePushed, OneAtMost, Own, may_have, Led, Since}
-use Rattle.ws_node.specs.Went.{AbortGoes, ByInput, GoesOut, InputGoes, OutputGoes, ToEdge, ToOutput}
+use Rattle.ws_node.proofs.Credit.{rests-credit}
+use Rattle.ws_node.proofs.Legal.{since-rests}
+use Rattle.ws_node.proofs.Nearing.{near-read}
+use Rattle.ws_node.specs.Went.{ByInput, InputGoes}
 use Rattle.ws_node.proofs.Changes.{answering, led-input, led-unasked, led-stopped}
 use Rattle.ws_node.proofs.Entries.{called-longer}
-use Rattle.ws_node.proofs.Going.{SameCounts, abort-same, as-many, ends-same, held-goes, works-count, going-acts, going-stays, went-quietly, went-same, only-same}
+use Rattle.ws_node.proofs.Going.{SameCounts, as-many, goes-still, held-goes, works-count, going-acts, going-stays, went-quietly, went-same, only-same}
 use Rattle.ws_node.proofs.Handled.{Handled}
-use Rattle.ws_node.proofs.Quiet.{IsNoMessage, ends-as}
-use Rattle.ws_node.proofs.Since.{OnlyRealm, MayAsk, own-failed, since-asks}
+use Rattle.ws_node.proofs.Quiet.{IsNoMessage, stays-as, stays-going, ends-as}
+use Rattle.ws_node.proofs.Since.{OnlyRealm, only-then, MayAsk, own-failed, since-asks}
 
 -- where all that was read was had, nothing is behind the host
 none-behind : (n : ℕ) (vs : List Value) → n ≡ 0 → OneAtMost n vs → vs ≡ []
@@ -105,14 +106,6 @@ pull-may shape past n id i pull =
     }
 
 -- the call that hands on what was read, and then the settling of the pull
-
-only-then : (a b c : Node) → OnlyRealm a b → OnlyRealm b c → OnlyRealm a c
-only-then a b c first second =
-    record {
-      realm = second.realm;
-      stopped = second.stopped;
-      is = second.is ∙ ap (λ (n : Node). record n { core = record n.core { realm = second.realm; stopped = second.stopped } }) first.is;
-    }
 
 record Both (shape : Shape) (past : List Entry) (c : Call) (n b : Node) : Type 0 where
   pub more : List Entry
@@ -172,45 +165,6 @@ bytes-at shape i from is x rest k =
 not-first : (t : Told Value) (j : ℕ) → only_at 0 t (suc j) ≡ silence
 not-first t j = let other : nat_eq (suc j) 0 ≡ false = grind (arith, nat_tests) in rw other refl
 
--- an output that isn't touched
-output-calm : (o : Output) (wf : ℕ) (finished : Option Bool) (before now : ℕ) (old new : Option Feed) → feeds_edge o ≡ false
-    → OutputGoes o o [] MayCome (moment before old wf finished) (moment now new wf finished)
-output-calm output.Open wf finished before now old new e = (refl, refl, KeepsTold-same finished)
-output-calm output.Finished wf finished before now old new e = (refl, record { none = refl; calm = refl; finished = refl })
-output-calm output.Failed wf finished before now old new e = (refl, record { none = refl; calm = refl; finished = refl })
-output-calm output.Aborted wf finished before now old new e = (refl, record { none = refl; calm = refl; finished = refl })
-output-calm output.Edge wf finished before now old new e = absurd (cc)
-
--- nor is an edge
-goes-calmly : (a b : Exit) (wf : ℕ) (finished : Option Bool) (before now : ℕ) (old new : Option Feed) (p : List ℕ → Type 0) → b.output ≡ a.output → b.abort ≡ a.abort → b.sink ≡ a.sink
-    → b.below ≡ a.below → GoesOut a b (moment before old wf finished) (moment now new wf finished) p p nothing_yet [] MayCome
-goes-calmly a b wf finished before now old new p same abort sink below = by (feeds_edge a.output) refl where
-  by : (t : Bool) → feeds_edge a.output ≡ t → GoesOut a b (moment before old wf finished) (moment now new wf finished) p p nothing_yet [] MayCome
-  by false e =
-      ToOutput e
-      (record {
-        gained = Gains-nothing p;
-        written = (refl, refl);
-        output = subst (λ o. OutputGoes a.output o [] MayCome (moment before old wf finished) (moment now new wf finished)) (sym same) (output-calm a.output wf finished before now old new e);
-        abort = subst (λ x. AbortGoes a.abort x [] [] b.output) (sym abort) (abort-same a.abort [] b.output);
-        sink = sink;
-        below = below;
-      })
-  by true e =
-      ToEdge e
-      (record {
-        taken = [];
-        posted = [];
-        end = ends-same a.below b.below below;
-        went_is = refl;
-        gained = Gains-nothing p;
-        output = same;
-        may_come = refl;
-        alone = record { none = refl; calm = refl; finished = refl };
-        abort = abort;
-        sink = sink;
-      })
-
 -- a node whose input may be read is fed by it
 not-edge : (i : Input) → i ≡ input.Open → is_edge i ≡ false
 not-edge i e = ap (λ (x : Input). is_edge x) e
@@ -261,7 +215,7 @@ module _ (wf : ℕ) (finished : Option Bool) (p : List ℕ → Type 0) (shape : 
   abbrev m₁ : Moment
   m₁ = moment now new wf finished
 
-  module _ (goes : a.core.stopped ≡ None) (written : a.entrance.ahead ≡ 0) (was_open : a.entrance.input ≡ input.Open) (id : HostId) (asked : a.entrance.asked ≡ Some id) (want : ℕ) (most : want ≤ 4096)
+  module _ (goes : a.core.stopped ≡ None) (written : a.entrance.ahead ≡ 0) (whole : a.exit.broken ≡ false) (was_open : a.entrance.input ≡ input.Open) (id : HostId) (asked : a.entrance.asked ≡ Some id) (want : ℕ) (most : want ≤ 4096)
       (limit : want ≤ (a.entrance.most - a.entrance.taken) + 1) where
     -- the pull that waited is one
     is_pull : (i : StreamId) × (slice_get (called past) id.0 ≡ Some (Pull i))
@@ -281,9 +235,9 @@ module _ (wf : ℕ) (finished : Option Bool) (p : List ℕ → Type 0) (shape : 
         → Asks c (answering taken ahead i a) mid → Asks (settles id) mid b → ((j : ℕ) → enters_in shape (suc j) c ≡ silence)
         → IsShortOf (then_told (in_bytes (enters_in shape 0 c)) (lost_by i)) read
         → ((behind_at 0 a.core.realm.slots).items ≡ [] → OneAtMost ahead (then_told (behind_at 0 a.core.realm.slots) (enters_in shape 0 c)).items)
-        → Fed old new (concat read.items) → All (λ c. length c ≤ 4096) read.items → taken ≡ a.entrance.taken + length (concat read.items) → length (concat read.items) ≤ ahead
+        → Fed old new (concat read.items) → All (λ c. length c ≤ 4096) read.items → taken ≡ a.entrance.taken + length (concat read.items) → length (concat read.items) ≤ ahead → length read.items ≤ min ahead 1
         → InputGoes a.entrance.input i read m₀ m₁ → Handled shape a b m₀ m₁ p p
-    took taken ahead i c mid read no_edge unsent counts may asks settles_it silent came one fed short counted had goes_in =
+    took taken ahead i c mid read no_edge unsent counts may asks settles_it silent came one fed short counted had few_read goes_in =
         let n : Node = answering taken ahead i a in
         let h = both shape past n mid b c id is_pull.0 unsent is_pull.1 (led-input shape past a taken ahead i was_open no_edge counts s.led) may asks settles_it in
         let same : SameCounts n b = only-same n b h.only in
@@ -299,7 +253,7 @@ module _ (wf : ℕ) (finished : Option Bool) (p : List ℕ → Type 0) (shape : 
           past = h.more;
           led = h.led;
           pushes = λ going. subst (λ ws. ArePushed b.core.realm.slots.age ws) (sym items) (pushed-on a.core.realm.slots.age b.core.realm.slots.age a.core.stages.items (h.older going) (s.pushes goes));
-          ends = h.ends (ends-as shape past a n refl refl (λ e. e) s.ends);
+          ends = h.ends (ends-as shape past a n refl refl (stays-as a.core.stopped) s.ends);
           one = λ fed_so may_be. subst (λ q. OneAtMost q (behind_at 0 b.core.realm.slots).items) (sym ahead_is)
               (h.one ahead (one (none (subst (λ (q : Node). may_have q.core.stages.items q.exit.output q.exit.abort ≡ true) h.only.is may_be))));
           went = record {
@@ -331,8 +285,11 @@ module _ (wf : ℕ) (finished : Option Bool) (p : List ℕ → Type 0) (shape : 
                   most = same.most;
                   above = same.above;
                 });
-            into = goes-calmly a.exit b.exit wf finished before now old new p same.output same.abort same.sink same.below;
+            into = goes-still a.exit b.exit m₀ m₁ p p refl refl (Gains-nothing p) same.output same.abort same.sink same.below;
             ahead = λ e by to. omega arith;
+            near = λ head pieces is.
+                near-read a b pieces (length read.items) goes written whole same.below same.broken (let e = ahead_is in omega (arith, e, few_read)) (rests-credit shape past a (since-rests shape past a s)).chunks is;
+            short = λ was some. absurd (omega arith);
             stays = going-acts a b m₀ m₁ read [] goes;
           };
         }
@@ -351,7 +308,7 @@ module _ (wf : ℕ) (finished : Option Bool) (p : List ℕ → Type 0) (shape : 
         asks settles_it (λ j. finish-at shape a.entrance.source bytes s.led.is_of.source (suc j) ∙ not-first (told [] Closed) j)
         (subst (λ (t : Told Value). IsShortOf (then_told (in_bytes t) (lost_by input.Ended)) (told [] Closed)) (sym (finish-at shape a.entrance.source bytes s.led.is_of.source 0)) (refl, refl))
         (λ e. subst (λ q. OneAtMost a.entrance.ahead (then_told (behind_at 0 a.core.realm.slots) q).items) (sym (finish-at shape a.entrance.source bytes s.led.is_of.source 0)) (one-closes a.entrance.ahead (behind_at 0 a.core.realm.slots) Closed e))
-        piece.moved (All-nil (λ c. length c ≤ 4096)) (omega arith) (omega arith)
+        piece.moved (All-nil (λ c. length c ≤ 4096)) (omega arith) (omega arith) (omega arith)
         (rw was_open (refl, piece.calm, (piece.end refl).1, IsEmpty-kept old new [] (piece.end refl).0 piece.moved))
 
     -- a failed read
@@ -371,7 +328,7 @@ module _ (wf : ℕ) (finished : Option Bool) (p : List ℕ → Type 0) (shape : 
         (subst (λ (t : Told Value). IsShortOf (then_told (in_bytes t) (lost_by input.Failed)) (told [] Lost)) (sym ((each_nodes_call_brings shape.origin 0).fail a.entrance.source (FaultReason ReadFault))) ([], refl))
         (λ e. subst (λ q. OneAtMost a.entrance.ahead (then_told (behind_at 0 a.core.realm.slots) q).items) (sym ((each_nodes_call_brings shape.origin 0).fail a.entrance.source (FaultReason ReadFault)))
         (one-closes a.entrance.ahead (behind_at 0 a.core.realm.slots) MayCome e))
-        fed (All-nil (λ c. length c ≤ 4096)) (omega arith) (omega arith) (rw was_open (refl, rose, kept))
+        fed (All-nil (λ c. length c ≤ 4096)) (omega arith) (omega arith) (omega arith) (rw was_open (refl, rose, kept))
 
     -- bytes
     module _ (x : ℕ) (rest : List ℕ) (piece : IsPiece old new before now want (x ∷ rest)) where
@@ -404,7 +361,7 @@ module _ (wf : ℕ) (finished : Option Bool) (p : List ℕ → Type 0) (shape : 
           ((x ∷ rest) ∷ [], refl))
           (λ e. subst (λ q. OneAtMost (length (x ∷ rest)) (then_told (behind_at 0 a.core.realm.slots) q).items) (sym ((each_nodes_call_brings shape.origin 0).fail a.entrance.source (FaultReason TooMuch)))
           (one-closes (length (x ∷ rest)) (behind_at 0 a.core.realm.slots) MayCome e))
-          fed_all one_short (omega arith) (omega arith) (rw was_open (refl, piece.calm, piece.before_end (omega arith)))
+          fed_all one_short (omega arith) (omega arith) (omega arith) (rw was_open (refl, piece.calm, piece.before_end (omega arith)))
 
       some : (c : Node) → a.entrance.taken + length (x ∷ rest) ≤ a.entrance.most → Asks (Enqueue a.entrance.source (Bytes (x ∷ rest))) (answering (a.entrance.taken + length (x ∷ rest)) (length (x ∷ rest)) a.entrance.input a) c
           → Asks (settles id) c b → Handled shape a b m₀ m₁ p p
@@ -421,7 +378,7 @@ module _ (wf : ℕ) (finished : Option Bool) (p : List ℕ → Type 0) (shape : 
           (subst (λ (t : Told Value). IsShortOf (then_told (in_bytes t) nothing_yet) (told ((x ∷ rest) ∷ []) MayCome)) (sym (bytes-at shape a.entrance.source bytes s.led.is_of.source x rest 0)) (refl, refl)))
           (λ e. subst (λ q. OneAtMost (length (x ∷ rest)) (then_told (behind_at 0 a.core.realm.slots) q).items) (sym (bytes-at shape a.entrance.source bytes s.led.is_of.source x rest 0))
           (one-comes (length (x ∷ rest)) (x ∷ rest) (behind_at 0 a.core.realm.slots) e refl (omega arith)))
-          fed_all one_short (omega arith) (omega arith)
+          fed_all one_short (omega arith) (omega arith) (omega arith)
           (subst (λ (i : Input). InputGoes i i (told ((x ∷ rest) ∷ []) MayCome) m₀ m₁) (sym was_open) (refl, piece.calm, piece.before_end (omega arith)))
 
       taken_by : (c : Node) (t : Bool) → nat_lt a.entrance.most (a.entrance.taken + length (x ∷ rest)) ≡ t → takes_bytes (x ∷ rest) (record a { entrance = record a.entrance { asked = None } }) c t → Asks (settles id) c b
@@ -445,9 +402,9 @@ wanted shape past a m p s goes =
       led = led-stopped shape past (record a { entrance = record a.entrance { asked = None } }) NoMemory (λ e. absurd (cc)) (led-unasked shape past a s.led);
       pushes = λ e. absurd (cc);
       one = s.one;
-      ends = ends-as shape past a b refl refl (λ e. absurd (cc)) s.ends;
+      ends = ends-as shape past a b refl refl (stays-going a.core.stopped (Some NoMemory) goes) s.ends;
       went = went-quietly a b m p p (Gains-nothing p) (going-stays a b goes)
-          (record { taken = refl; ahead = λ e. refl; input = refl; output = refl; abort = refl; stages = refl; source = refl; sink = refl; most = refl; pipe = refl; pipes = refl; first = refl; above = refl; below = refl })
+          (record { taken = refl; ahead = λ e. refl; input = refl; output = refl; abort = refl; stages = refl; source = refl; sink = refl; most = refl; pipe = refl; pipes = refl; first = refl; above = refl; below = refl; broken = refl })
           (goes_rests (machines (stages_in a.core)) 0 (works_in a.core) (lies_in a) (lies_in b) (as-many a) (λ j h k. ((lies_in a j).items, refl)));
     }
 
@@ -458,5 +415,5 @@ reads wf finished p shape past a b old new before now s (ReadNot none same unrea
     rw (same, unread.feed, unread.calm) (record { past = past; led = s.led; pushes = s.pushes; one = s.one; ends = s.ends; went = went-same a (moment before old wf finished) p })
 reads wf finished p shape past a b old new before now s (Wanted goes unread id asked same) =
     rw (same, unread.feed, unread.calm) (wanted shape past a (moment before old wf finished) p s goes)
-reads wf finished p shape past a b old new before now s (ReadOnce goes written was_open id asked want most limit piece gives c takes settles_it) =
-    once wf finished p shape past a b old new before now s goes written was_open id asked want most limit piece c gives takes settles_it
+reads wf finished p shape past a b old new before now s (ReadOnce goes written whole was_open id asked want most limit piece gives c takes settles_it) =
+    once wf finished p shape past a b old new before now s goes written whole was_open id asked want most limit piece c gives takes settles_it

@@ -1,12 +1,12 @@
 -- What is known of a node's input, output and stages is why each reason with which it fails something keeps its cause.
-use Rattle.std.proofs.Common.{◌≡◌, ◌+◌, ℕ, true, List, [], ◌∷◌, ◌++◌, Option, Some, refl, sym, ap, ◌∙◌, subst, append-nil, append_assoc}
+use Rattle.std.proofs.Common.{◌≡◌, ◌+◌, ℕ, true, List, [], ◌∷◌, ◌++◌, Option, Some, sym, ap, ◌∙◌, subst, append-nil, append_assoc}
 use Rattle.std.specs.Prelude.{All, Contains}
 use Rattle.std.proofs.lemmas.List.{map-append}
 use Rattle.std.proofs.lemmas.List.Elements.{All-append, All-nil, All-weaker, Contains-append_left}
 use Rattle.ws_value.specs.declared.fault.Fault.{Fault}
 use Rattle.ws_value.specs.declared.fault.Fault.TheVariants as fault
 use Rattle.ws_value.specs.declared.value.Message.{Message}
-use Rattle.ws_value.specs.declared.value.Message.TheVariants.{Pull, Chunk, Close, Error}
+use Rattle.ws_value.specs.declared.value.Message.TheVariants.{Error}
 use Rattle.ws_value.specs.declared.value.Plain.{Plain}
 use Rattle.ws_value.specs.declared.value.Plain.TheVariants as plain
 use Rattle.ws_edge.specs.Edge.{AtEdge}
@@ -20,16 +20,10 @@ use Rattle.ws_node.specs.declared.node.Input.TheVariants as input
 use Rattle.ws_node.specs.declared.node.Node.{Node}
 use Rattle.ws_node.specs.Messages.{as_fair, fairly}
 use Rattle.ws_node.specs.Node.{is_reached, received_at}
-use Rattle.ws_node.specs.Past.{EndedAs, IsOwnStage, IsOwnFault, IsOwnCause, IsCause, Passed, Own, AreCaused, AllCaused, UntilError, is_shut}
+use Rattle.ws_node.specs.Past.{EndedAs, IsOwnFault, IsOwnCause, IsCause, Passed, Own, AreCaused, AllCaused, UntilError, is_shut}
 use Rattle.ws_node.specs.Shape.{Shape}
 use Rattle.ws_node.proofs.Entries.{failures-snoc}
-
-pub reasons-append : (xs ys : List Message) → reasons_in (xs ++ ys) ≡ reasons_in xs ++ reasons_in ys
-reasons-append [] ys = refl
-reasons-append (Pull ∷ ms) ys = reasons-append ms ys
-reasons-append (Chunk v ∷ ms) ys = reasons-append ms ys
-reasons-append (Close ∷ ms) ys = reasons-append ms ys
-reasons-append (Error r ∷ ms) ys = ap (λ (rs : List Plain). r ∷ rs) (reasons-append ms ys)
+use Rattle.ws_node.proofs.Firsts.{reasons-append}
 
 -- a node that knows as much
 pub record KeepsCauses (a b : Node) : Type 0 where

@@ -32,8 +32,8 @@ use Rattle.ws_node.specs.Past.{EndedAs, EndsHave, IsCause, IsOwnStage, OneAtMost
 use Rattle.ws_node.proofs.Called.{may-settle}
 use Rattle.ws_node.proofs.Entries.{called-longer}
 use Rattle.ws_node.proofs.Handing.{lies_to}
-use Rattle.ws_node.proofs.Putting.{puts, asks-quietly, settle-quiet, only-then}
-use Rattle.ws_node.proofs.Since.{MayAsk, OnlyRealm}
+use Rattle.ws_node.proofs.Putting.{puts, asks-quietly, settle-quiet}
+use Rattle.ws_node.proofs.Since.{MayAsk, OnlyRealm, only-then}
 
 -- the stage's number in the plan, where so many stand on the nodes before
 abbrev pub answer_by : ℕ → StreamId → Ending → Answer

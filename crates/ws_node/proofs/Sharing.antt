@@ -56,6 +56,15 @@ hex-shared : (share : Share) (ps : List Placed) → count_by is_hex (shared shar
 hex-shared share [] = omega arith
 hex-shared share (p ∷ ps) = hex-by share p ps (is_in share p) (hex-shared share ps)
 
+-- the nodes at the ends of a run with workers have none
+
+pub none-shared : (ps : List Placed) → shared NoneOfThem ps ≡ []
+none-shared [] = refl
+none-shared (p ∷ ps) = none-shared ps
+
+pub none-begun : (ps : List Placed) → all_begun (shared NoneOfThem ps) ≡ []
+none-begun ps = ap all_begun (none-shared ps)
+
 pub shared-length : (share : Share) (ps : List Placed) → length (shared share ps) ≤ length ps
 shared-length share ps =
     let a = length-map (filter (is_in share) ps) (λ (p : Placed). p.stage) in

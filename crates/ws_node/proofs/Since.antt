@@ -52,7 +52,7 @@ use Rattle.ws_node.specs.Ran.{IsOwn, IsOwnEntry, HasRun}
 use Rattle.ws_node.proofs.Bytes.{short-behind, nothing-follows, short-ended, lost-short, lying-both, lying-since, one-short, one-before}
 use Rattle.ws_node.proofs.Shut.{enqueue-shut, behind-mark}
 use Rattle.ws_node.proofs.Entries.{fair-append, called-longer, pull-longer, MayClose, closes-snoc, MayFlush, flushes-snoc}
-use Rattle.ws_node.proofs.Quiet.{IsNoMessage, no-message, IsNoPost, no-post, taken-snoc, taken-none, delivered-snoc, delivered-none, posted-append, ends-same, ends-as}
+use Rattle.ws_node.proofs.Quiet.{IsNoMessage, no-message, IsNoPost, no-post, taken-snoc, taken-none, delivered-snoc, delivered-none, posted-append, StaysSo, stays-as, stays-going, ends-same, ends-as}
 use Rattle.ws_node.proofs.Ran.{own-nodes, ran-longer, ran-same}
 use Rattle.ws_node.proofs.Reasons.{KeepsCauses, same-causes, causes-stay, causes-longer, MayFailBy}
 pub use Rattle.ws_node.proofs.Reasons.{MayFail, AllHaveCauses, FromBelow}
@@ -108,6 +108,9 @@ pub record OnlyRealm (a b : Node) : Type 0 where
   pub realm : SeenRealm
   pub stopped : Option Why
   pub is : b ≡ record a { core = record a.core { realm = realm; stopped = stopped } }
+
+pub only-then : (a b c : Node) → OnlyRealm a b → OnlyRealm b c → OnlyRealm a c
+only-then a b c f g = record { realm = g.realm; stopped = g.stopped; is = g.is ∙ ap (λ (n : Node). record n { core = record n.core { realm = g.realm; stopped = g.stopped } }) f.is }
 
 -- What a node may ask of its realm: calls of its own, which bring bytes and faults, with reasons that have their cause. It settles the close of the sink well only where the output was
 -- finished, and the flush of a stage only where that ended fine
@@ -168,11 +171,16 @@ one_more n m e = omega (arith, e)
 ends-called : (shape : Shape) (past : List Entry) (a : Node) (realm : SeenRealm) (c : Call) → IsNoMessage c → EndsHave shape past a → EndsHave shape (past ++ Called c ∷ []) (with_realm realm a)
 ends-called shape past a realm c none h =
     ends-same shape past (past ++ Called c ∷ []) a (with_realm realm a) (λ port. ap (posted_in port) (taken-none past (Called c) empty refl))
-    (λ port. delivered-none port past (Called c) (append-nil (message_by port c) ∙ no-message port c none)) refl refl (λ e. e) h
+    (λ port. delivered-none port past (Called c) (append-nil (message_by port c) ∙ no-message port c none)) refl refl (stays-as a.core.stopped) h
 
-ends-refused : (shape : Shape) (past : List Entry) (a : Node) (why : Why) → EndsHave shape past a → EndsHave shape (past ++ []) (stopped_by why a)
-ends-refused shape past a why h =
-    subst (λ (es : List Entry). EndsHave shape es (stopped_by why a)) (sym (append-nil past)) (ends-as shape past a (stopped_by why a) refl refl (λ e. absurd (cc)) h)
+stops-so : (a : Node) (why : Why) → Stops why a → StaysSo a.core.stopped (Some why)
+stops-so a why (Before e) = (λ f. absurd (cc), λ f. sym e ∙ f)
+stops-so a why (Wanting going is) = stays-going a.core.stopped (Some why) going
+stops-so a why (IsSpent going is old) = stays-going a.core.stopped (Some why) going
+
+ends-refused : (shape : Shape) (past : List Entry) (a : Node) (why : Why) → Stops why a → EndsHave shape past a → EndsHave shape (past ++ []) (stopped_by why a)
+ends-refused shape past a why stops h =
+    subst (λ (es : List Entry). EndsHave shape es (stopped_by why a)) (sym (append-nil past)) (ends-as shape past a (stopped_by why a) refl refl (stops-so a why stops) h)
 
 pub since-asks : (shape : Shape) (past : List Entry) (a b : Node) (c : Call) → Led shape past a → MayAsk shape past a c → Asks c a b → AfterCall shape past c a b
 since-asks shape past a b c led may (Performed realm slots young goes is) =
@@ -201,7 +209,7 @@ since-asks shape past a b c led may (Refused why stops is) =
       older = λ e. absurd (cc);
       taken = ap (λ (es : List Entry). taken_events es empty) (append-nil past);
       delivered = Undelivered (λ e. cc) (λ port. ap (delivered_to port) (append-nil past));
-      ends = λ none h. ends-refused shape past a why h;
+      ends = λ none h. ends-refused shape past a why stops h;
     })
 
 -- where a chunk isn't taken, whatever was to come behind it on that link is lost
@@ -363,7 +371,7 @@ works-by shape past a b led w None e =
       taken = went.taken;
       delivered = went.delivered;
       ends = λ h. ends-same shape past (past ++ went.more) a (record a { core = record a.core { realm = w.realm; stopped = w.stopped } }) (λ port. ap (posted_in port) went.taken) went.delivered
-          refl refl (λ f. e) h;
+          refl refl (stays-going a.core.stopped w.stopped e) h;
     })
 
 pub since-works : (shape : Shape) (past : List Entry) (a b : Node) → Led shape past a → Works a b → AfterJobs shape past a b
@@ -408,11 +416,11 @@ first-event calls (x ∷ es) e f a = subst (IsItsCall calls) (same_some x e f) a
 
 -- what the host hears of is the first event that waits
 
-first-taken : (es : List Event) (e : Event) → first_event es ≡ Some e → taken_event es ≡ e ∷ []
+pub first-taken : (es : List Event) (e : Event) → first_event es ≡ Some e → taken_event es ≡ e ∷ []
 first-taken [] e f = absurd (cc)
 first-taken (x ∷ es) e f = ap (λ (y : Event). y ∷ []) (same_some x e f)
 
-none-taken : (es : List Event) → first_event es ≡ None → taken_event es ≡ []
+pub none-taken : (es : List Event) → first_event es ≡ None → taken_event es ≡ []
 none-taken [] f = refl
 none-taken (x ∷ es) f = absurd (cc)
 
@@ -439,7 +447,7 @@ ends-heard : (shape : Shape) (past : List Entry) (a : Node) (realm : SeenRealm)
     → ((port : PortId) → posted_in port (taken_events (past ++ Heard ∷ []) empty) ≡ posted_in port (taken_events past empty))
     → EndsHave shape past a → EndsHave shape (past ++ Heard ∷ []) (with_realm realm a)
 ends-heard shape past a realm same h =
-    ends-same shape past (past ++ Heard ∷ []) a (with_realm realm a) same (λ port. delivered-none port past Heard refl) refl refl (λ e. e) h
+    ends-same shape past (past ++ Heard ∷ []) a (with_realm realm a) same (λ port. delivered-none port past Heard refl) refl refl (stays-as a.core.stopped) h
 
 pub since-hears : (shape : Shape) (past : List Entry) (a : Node) (realm : SeenRealm) (e : Event) → Led shape past a → a.core.stopped ≡ None → first_event a.core.realm.slots.promises.events ≡ Some e
     → realm.slots ≡ after_event a.core.realm.slots → AfterEvent shape past a realm e

@@ -1,7 +1,6 @@
 -- What a node that was new went through, as the nodes of a chain need it: what came in and went out, by its kind of input and output.
-use Rattle.std.proofs.Common.{◌≡◌, ◌≢◌, ◌+◌, ◌-◌, ◌<◌, ◌≤◌, ℕ, zero, suc, ℤ, Bool, true, false, List, [], ◌∷◌, ◌++◌, length, map, nat_abs, Option, Some, None, refl, sym, ap, ◌∙◌, subst, append_assoc, arith}
-use Rattle.std.specs.Prelude.{All, Contains, is_some}
-use Rattle.std.specs.List.{concat}
+use Rattle.std.proofs.Common.{◌≡◌, ◌+◌, ◌-◌, ℕ, suc, ℤ, Bool, true, false, List, [], ◌∷◌, ◌++◌, length, map, Option, Some, None, refl, sym, ap, ◌∙◌, subst, append_assoc, arith}
+use Rattle.std.specs.Prelude.{All, Contains}
 use Rattle.std.proofs.lemmas.List.Elements.{All-nil, All-cons, All-contains, All-head, All-tail}
 use Rattle.ws_value.specs.declared.fault.Fault.TheVariants as fault
 use Rattle.ws_value.specs.declared.value.Message.{Message}
@@ -19,6 +18,7 @@ use Rattle.ws_flow.specs.Told.{Mark, Told, then_told}
 use Rattle.ws_io.specs.Moment.{Moment}
 use Rattle.ws_joined_laws.specs.Reasons.{reasons_in, Finds, HasCause, Passed as PassedOn, Own as OwnCause, IsOwn}
 use Rattle.ws_realm.specs.declared.realm.Why.{Why}
+use Rattle.ws_realm.specs.declared.realm.Why.TheVariants as why
 use Rattle.ws_stages.specs.State.{State}
 use Rattle.ws_node.specs.declared.node.Abort.{Abort}
 use Rattle.ws_node.specs.declared.node.Entrance.{Entrance}
@@ -30,10 +30,10 @@ use Rattle.ws_node.specs.declared.node.Output.{Output}
 use Rattle.ws_node.specs.declared.node.Output.TheVariants as output
 use Rattle.ws_node.specs.Rules.{IsSentFor, Caused, Wanting, SendsDown}
 use Rattle.ws_node.specs.Messages.{fairly}
-use Rattle.ws_node.specs.Node.{feeds_edge, held, is_edge, is_reached, lies_in, parts, received_at, sent_at, stages_in}
-use Rattle.ws_node.specs.Past.{is_shut, EndedAs, IsCause, IsNew, IsOwnCause, IsOwnStage, IsUnused, Passed, Own}
+use Rattle.ws_node.specs.Node.{feeds_edge, held, is_edge, is_reached, lies_in, parts, received_at, sent_at}
+use Rattle.ws_node.specs.Past.{is_shut, IsNew, IsOwnCause, IsOwnStage, IsUnused, Passed, Own}
 use Rattle.ws_node.specs.Shape.{Shape}
-use Rattle.ws_node.specs.Went.{ComesIn, ByInput, ByEdge, CoreGoes, EdgeGoes, EndGrows, FromGoes, GoesOut, ToOutput, ToEdge, PostsOn, TakesOn, ToGoes, Went, broken_by}
+use Rattle.ws_node.specs.Went.{ComesIn, ByInput, ByEdge, EndGrows, FromGoes, GoesOut, ToOutput, ToEdge, PostsOn, TakesOn, ToGoes, Went}
 use Rattle.ws_node.proofs.Passing.{Inside, SendsFairly}
 
 -- What a node finds
@@ -61,6 +61,11 @@ is_failed output.Failed = true
 is_failed output.Aborted = false
 is_failed output.Edge = false
 
+abbrev pub is_wanting : Option Why → Bool
+is_wanting None = false
+is_wanting (Some why.NoMemory) = true
+is_wanting (Some why.Spent) = false
+
 abbrev pub finds_of : Node → Finds
 finds_of n = record {
   before = n.core.first;
@@ -68,7 +73,7 @@ finds_of n = record {
   too_much = is_too_long n.entrance.input;
   write_failed = is_failed n.exit.output;
   abort_reached = is_reached n.exit.abort;
-  memory_wanting = is_some n.core.stopped;
+  memory_wanting = is_wanting n.core.stopped;
 }
 
 -- such a node with these stages
@@ -179,15 +184,11 @@ stands xs x c = All-contains (StandsIn xs) xs x (stands-all xs [] xs refl) c
 pub passed-on : (f : Finds) (ps : List Part) (came : List Plain) (r : Plain) → Contains came r → HasCause f ps came r
 passed-on f ps came r c = let s = stands came r c in PassedOn s.before s.after s.whole
 
-some-stopped : (o : Option Why) → o ≢ None → is_some o ≡ true
-some-stopped None h = absurd (h refl)
-some-stopped (Some why) h = refl
-
 has-cause : (n : Node) (r : Plain) → feeds_edge n.exit.output ≡ true → IsSentFor n r
     → HasCause (finds_of n) (parts n) (reasons_in (fairly (received_at n.entrance.above))) r
 has-cause n r e (Caused (Passed c)) = passed-on (finds_of n) (parts n) (reasons_in (fairly (received_at n.entrance.above))) r c
 has-cause n r e (Caused (Own o)) = OwnCause (own-cause n r e o)
-has-cause n r e (Wanting is stopped) = OwnCause (subst (λ q. IsOwn (finds_of n) (parts n) q) (sym is) (some-stopped n.core.stopped stopped))
+has-cause n r e (Wanting is stopped) = OwnCause (subst (λ q. IsOwn (finds_of n) (parts n) q) (sym is) (ap is_wanting stopped))
 
 have-causes : (n : Node) (rs : List Plain) → feeds_edge n.exit.output ≡ true → All (IsSentFor n) rs
     → All (HasCause (finds_of n) (parts n) (reasons_in (fairly (received_at n.entrance.above)))) rs

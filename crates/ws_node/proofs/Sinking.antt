@@ -1,21 +1,20 @@
 -- What lies before the sink goes out, and the node goes on so.
-use Rattle.std.proofs.Common.{◌≡◌, ◌≢◌, ◌+◌, ◌<◌, ◌≤◌, ◌==◌, ℕ, zero, suc, Bool, true, false, List, [], ◌∷◌, ◌++◌, length, Option, Some, None, refl, sym, ap, ◌∙◌, subst, arith}
-use Rattle.std.specs.Prelude.{option_map}
+use Rattle.std.proofs.Common.{◌≡◌, ◌≢◌, ◌+◌, ◌<◌, ◌≤◌, ◌==◌, ℕ, zero, suc, true, false, List, [], ◌∷◌, ◌++◌, length, Option, Some, None, refl, sym, ap, ◌∙◌, subst, arith}
+use Rattle.std.specs.Prelude.{option_map, All}
 use Rattle.std.proofs.lemmas.List.{length-map}
-use Rattle.std.proofs.lemmas.List.Elements.{All-nil}
+use Rattle.std.proofs.lemmas.List.Elements.{All-head, All-tail}
 use Rattle.ws_value.specs.declared.ids.HostId.{HostId}
 use Rattle.ws_value.specs.declared.value.Value.{Value}
 use Rattle.ws_node.specs.Shape.{Shape, count_in, hears_in}
 use Rattle.ws_flow.specs.Parts.{AtWork, Goes}
 use Rattle.ws_flow.specs.Steps.{parts_at, behind_of}
 use Rattle.ws_flow.specs.Stages.{machines}
-use Rattle.ws_flow.specs.Told.{bytes_of, Mark, Told, told, then_told, IsShortOf}
+use Rattle.ws_flow.specs.Told.{bytes_of, Mark, Open as MayCome, Told, told, then_told, IsShortOf}
 use Rattle.ws_flow.proofs.Steps.{goes_out}
-use Rattle.ws_flow.proofs.Told.{short_trans, short_left}
-use Rattle.ws_io.specs.Feed.{Feed, KeepsEnd}
-use Rattle.ws_io.specs.Gain.{Gains, KeepsTold}
+use Rattle.ws_flow.proofs.Told.{short_trans, short_left, then_empty}
+use Rattle.ws_io.specs.Feed.{Feed}
+use Rattle.ws_io.specs.Gain.{Gains}
 use Rattle.ws_io.specs.Moment.{Moment}
-use Rattle.ws_io.proofs.Flow.{Fed-nothing}
 use Rattle.ws_stages.specs.State.{State}
 use Rattle.ws_steps.specs.declared.calls.Event.TheVariants.{Host}
 use Rattle.ws_steps.specs.declared.calls.HostCall.{HostCall}
@@ -24,89 +23,35 @@ use Rattle.ws_chain_laws.specs.Chain.{Target, ToSink, ToPort, behind_at}
 use Rattle.ws_chain_laws.specs.Nodes.{only_at}
 use Rattle.ws_realm.specs.Seen.{SeenRealm}
 use Rattle.ws_node.specs.declared.node.Abort.{Abort}
-use Rattle.ws_node.specs.declared.node.Entrance.{Entrance}
 use Rattle.ws_node.specs.declared.node.Exit.{Exit}
-use Rattle.ws_node.specs.declared.node.Input.{Input}
 use Rattle.ws_node.specs.declared.node.Input.TheVariants as input
 use Rattle.ws_node.specs.declared.node.Node.{Node}
 use Rattle.ws_node.specs.declared.node.Output.{Output}
 use Rattle.ws_node.specs.declared.node.Output.TheVariants as output
 use Rattle.ws_node.specs.Moves.{with_realm, Shown, shut, nearer, written}
-use Rattle.ws_node.specs.Node.{coming, feeds_edge, in_bytes, is_edge, is_reached, lies_in, lying, nothing_yet, parts, stages_in, works_in}
-use Rattle.ws_node.specs.Past.{FeedsAs, OneAtMost, ArePushed, HasOne, Since}
-use Rattle.ws_node.specs.Went.{AbortGoes, ByEdge, ByInput, ComesIn, EdgeGoes, InputGoes, OutputGoes, ToOutput}
+use Rattle.ws_node.specs.Node.{coming, feeds_edge, held, in_bytes, is_edge, is_reached, lies_in, lying, nothing_yet, parts, stages_in, works_in}
+use Rattle.ws_node.specs.Past.{FeedsAs, OneAtMost, ArePushed, HasOne, Since, most_of_piece}
+use Rattle.ws_node.specs.Went.{AbortGoes, EndsShort, OutputGoes, ToOutput}
+use Rattle.ws_joined_laws.specs.Condition.{AreInRange}
 use Rattle.ws_joined_laws.specs.Ends.{StopsIn}
-use Rattle.ws_node.proofs.Going.{ends-same, going-acts, out-goes}
+use Rattle.ws_joined_laws.proofs.Lengths.{held-below, read-bounds}
+use Rattle.ws_node.proofs.Going.{comes-still, flows-on, going-acts, out-goes}
 use Rattle.ws_node.proofs.Handled.{Handled, shows}
 use Rattle.ws_node.proofs.Staged.{same-length}
 use Rattle.ws_node.proofs.Handing.{lies_to, heard-lies, unheard-lies, one-quiet}
 use Rattle.ws_node.proofs.Ones.{all-more, one-behind}
+use Rattle.ws_node.proofs.Outgoing.{open_items, opened}
 use Rattle.ws_node.proofs.Putting.{AfterQuiet}
-use Rattle.ws_node.proofs.Quiet.{ends-as}
+use Rattle.ws_node.proofs.Quiet.{stays-as, ends-as}
 use Rattle.ws_node.proofs.Since.{AfterEvent}
 use Rattle.ws_node.proofs.Unheard.{at-there, at-elsewhere}
-
--- of the input, which isn't touched, and of an output
-
-keeps-end : (f : Option Feed) → KeepsEnd f f
-keeps-end None = tt
-keeps-end (Some f) = refl
-
-pub keeps-told : (f : Option Bool) → KeepsTold f f
-keeps-told None = tt
-keeps-told (Some f) = refl
-
-input-calm : (i : Input) (rf : ℕ) (feed : Option Feed) (old new : Shown) → is_edge i ≡ false → InputGoes i i nothing_yet (shows rf feed old) (shows rf feed new)
-input-calm input.Open rf feed old new e = (refl, refl, keeps-end feed)
-input-calm input.Ended rf feed old new e = (refl, refl, refl, refl)
-input-calm input.Failed rf feed old new e = (refl, refl, refl, refl)
-input-calm input.TooLong rf feed old new e = (refl, refl, refl, refl)
-input-calm input.Edge rf feed old new e = absurd (cc)
-input-calm (input.Broken r) rf feed old new e = absurd (cc)
-
-edge-calm : (i : Input) → is_edge i ≡ true → EdgeGoes i i []
-edge-calm input.Edge e = refl
-edge-calm (input.Broken r) e = refl
-edge-calm input.Open e = absurd (cc)
-edge-calm input.Ended e = absurd (cc)
-edge-calm input.Failed e = absurd (cc)
-edge-calm input.TooLong e = absurd (cc)
-
--- nothing comes in
-pub comes-calmly : (a b : Entrance) (rf : ℕ) (feed : Option Feed) (old new : Shown) → b.taken ≡ a.taken → b.input ≡ a.input → b.source ≡ a.source → b.most ≡ a.most → b.above ≡ a.above
-    → ComesIn a b (shows rf feed old) (shows rf feed new) nothing_yet
-comes-calmly a b rf feed old new taken same source most above = by (is_edge a.input) refl where
-  by : (t : Bool) → is_edge a.input ≡ t → ComesIn a b (shows rf feed old) (shows rf feed new) nothing_yet
-  by false e =
-      ByInput e
-      (record {
-        fed = Fed-nothing feed;
-        short = All-nil (λ c. length c ≤ 4096);
-        counted = omega arith;
-        input = subst (λ (i : Input). InputGoes a.input i nothing_yet (shows rf feed old) (shows rf feed new)) (sym same) (input-calm a.input rf feed old new e);
-        source = source;
-        most = most;
-        above = above;
-      })
-  by true e =
-      ByEdge e
-      (record {
-        taken = [];
-        posted = [];
-        end = ends-same a.above b.above above;
-        came_is = refl;
-        short = All-nil (λ c. length c < 33554432);
-        goes = subst (λ (i : Input). EdgeGoes a.input i []) (sym same) (edge-calm a.input e);
-        unread = (refl, refl);
-        counted = taken;
-        source = source;
-        most = most;
-      })
 
 -- what feeds the output has no edge below
 pub to-sink : (t : Target) (x : Exit) → FeedsAs t x → feeds_edge x.output ≡ false → (t ≡ ToSink) × (x.below ≡ None)
 to-sink ToSink x h not_edge = (refl, h.1)
 to-sink ToPort x h not_edge = absurd (let f = h.0 in cc)
+
+-- an output that is left alone
 
 pub output-alone : (o : Output) (gain : List ℕ) (m : Mark) (old : Moment) → feeds_edge o ≡ false → o ≢ output.Open → gain ≡ [] → OutputGoes o o gain m old old
 output-alone output.Open gain m old not_edge h e = absurd (h refl)
@@ -151,13 +96,8 @@ not_reached x e = by x.left e where
   by zero e = absurd (cc)
   by (suc n) e = omega arith
 
--- nothing was written
-pub abort-same : (x : Option Abort) (chunks : List (List ℕ)) (o : Output) → AbortGoes x x chunks [] o
-abort-same None chunks o = tt
-abort-same (Some x) chunks o = (refl, record { counted = omega arith; exact = λ h k. omega arith; last = λ h. absurd (omega arith) })
-
 -- it holds the last byte of what was gained
-stops-here : (left : ℕ) (piece gain : List ℕ) → 0 < left → length gain ≤ length piece → 0 < length gain → StopsIn left (piece ∷ []) gain
+pub stops-here : (left : ℕ) (piece gain : List ℕ) → 0 < left → length gain ≤ length piece → 0 < length gain → StopsIn left (piece ∷ []) gain
 stops-here left piece gain near less some =
     record { before = []; chunk = piece; after = []; split = refl; from = some; to = omega arith; fewer = near }
 
@@ -181,6 +121,44 @@ abort-nearer (Some x) piece o e =
 pub signal-same : (count : ℕ) (x : Option Abort) → option_map (λ (a : Abort). a.signal) (nearer_by count x) ≡ option_map (λ (a : Abort). a.signal) x
 signal-same count None = refl
 signal-same count (Some x) = refl
+
+-- the chunk that holds the last byte is one of those that went out
+
+ends-short : (chunks : List (List ℕ)) (gain : List ℕ) → StopsIn (length gain) chunks gain → All (λ c. length c < 33554432) chunks → EndsShort chunks gain
+ends-short chunks gain at all = record {
+  before = at.before;
+  chunk = at.chunk;
+  after = at.after;
+  split = at.split;
+  from = at.from;
+  to = at.to;
+  short = among at.before at.after at.chunk (subst (All (λ c. length c < 33554432)) at.split all);
+}
+  where
+    among : (before after : List (List ℕ)) (c : List ℕ) → All (λ c. length c < 33554432) (before ++ c ∷ after) → length c < 33554432
+    among [] after c h = All-head (λ c. length c < 33554432) c after h
+    among (b ∷ before) after c h = among before after c (All-tail (λ c. length c < 33554432) b (before ++ c ∷ after) h)
+
+behind-all : (xs ys : List (List ℕ)) → All (λ c. length c < 33554432) (xs ++ ys) → All (λ c. length c < 33554432) ys
+behind-all [] ys h = h
+behind-all (x ∷ xs) ys h = behind-all xs ys (All-tail (λ c. length c < 33554432) x (xs ++ ys) h)
+
+open-behind : (x y : Told (List ℕ)) → x.mark ≡ MayCome → All (λ c. length c < 33554432) (then_told x y).items → All (λ c. length c < 33554432) y.items
+open-behind x y e h = behind-all x.items y.items (subst (All (λ c. length c < 33554432)) (open_items x y e) h)
+
+-- all chunks are short that go out of a node that the input feeds
+sent-short : (shape : Shape) (past : List Entry) (a b : Node) (went : Told (List ℕ)) → Since shape past a → is_edge a.entrance.input ≡ false → a.exit.output ≡ output.Open
+    → Goes (machines shape.stages) nothing_yet (parts a) (held a) (parts b) (then_told went (held b)) → All (λ c. length c < 33554432) went.items
+sent-short shape past a b went since by_input is_open goes =
+    let fed = since.fed in
+    let fit = since.led.is_of.fit in
+    let range : AreInRange shape.stages = record { few = fit.few; range = fit.range; hex = fit.hex } in
+    let most : most_of_piece a.entrance.input ≡ 4096 = rw by_input refl in
+    let came : All (λ c. length c ≤ 4096) (then_told fed.came nothing_yet).items =
+    subst (λ (t : Told (List ℕ)). All (λ c. length c ≤ 4096) t.items) (sym (then_empty fed.came)) (subst (λ k. All (λ c. length c ≤ k) fed.came.items) most fed.short) in
+    open-behind fed.went went (fed.goes_on is_open)
+    (held-below 4096 33554432 shape.stages (then_told fed.came nothing_yet) (parts b) (then_told fed.went went) (held b) read-bounds range came
+    (flows-on shape.stages a b fed.came fed.went nothing_yet went fed.flows goes)).sent
 
 -- what is written of what lies in a node
 
@@ -245,9 +223,9 @@ module _ (shape : Shape) (past : List Entry) (a : Node) (realm : SeenRealm) (sin
             (λ j p less. lies-before j (let e = count-works in omega arith)) last)
 
         pub sunk : feeds_edge a.exit.output ≡ false → (rf : ℕ) (feed : Option Feed) (old new : Shown) (p q : List ℕ → Type 0) (gain : List ℕ) (out : Mark) → Gains p q gain → IsShortOf (told gain out) (bytes_of went)
-            → (a.core.stages.items ≡ [] → a.entrance.ahead ≤ length gain + k) → OutputGoes a.exit.output o gain out (shows rf feed old) (shows rf feed new) → AbortGoes a.exit.abort x went.items gain o → HasOne b
-            → Handled shape a b (shows rf feed old) (shows rf feed new) p q
-        sunk not_edge rf feed old new p q gain out gained written ahead out_goes abort one =
+            → (a.core.stages.items ≡ [] → a.entrance.ahead ≤ length gain + k) → OutputGoes a.exit.output o gain out (shows rf feed old) (shows rf feed new) → AbortGoes a.exit.abort x went.items gain o
+            → (0 < length gain → StopsIn (length gain) went.items gain) → HasOne b → Handled shape a b (shows rf feed old) (shows rf feed new) p q
+        sunk not_edge rf feed old new p q gain out gained written ahead out_goes abort last one =
             let none : a.exit.below ≡ None = (to-sink shape.target a.exit since.led.is_of.into not_edge).1 in
             let below : b.exit.below ≡ a.exit.below = ap (λ (n : Node). n.exit.below) b-is in
             let taken : b.entrance.taken ≡ a.entrance.taken = ap (λ (n : Node). n.entrance.taken) b-is in
@@ -263,7 +241,7 @@ module _ (shape : Shape) (past : List Entry) (a : Node) (realm : SeenRealm) (sin
                   let g = event.age in
                   subst (ArePushed b.core.realm.slots.age) (sym (ap (λ (n : Node). n.core.stages.items) b-is)) (all-more a.core.realm.slots.age b.core.realm.slots.age a.core.stages.items (omega arith) (since.pushes goes));
               one = one;
-              ends = after.ends (ends-as shape (past ++ Heard ∷ []) was (record was { entrance = record was.entrance { ahead = k }; exit = record was.exit { abort = x; output = o } }) refl refl (λ e. e) (event.ends tt since.ends));
+              ends = after.ends (ends-as shape (past ++ Heard ∷ []) was (record was { entrance = record was.entrance { ahead = k }; exit = record was.exit { abort = x; output = o } }) refl refl (stays-as was.core.stopped) (event.ends tt since.ends));
               went = record {
                 read = nothing_yet;
                 went = went;
@@ -281,7 +259,7 @@ module _ (shape : Shape) (past : List Entry) (a : Node) (realm : SeenRealm) (sin
                   pipes = ap (λ (n : Node). n.core.pipes_before) b-is;
                   first = ap (λ (n : Node). n.core.first) b-is;
                 };
-                from = comes-calmly a.entrance b.entrance rf feed old new taken i_is (ap (λ (n : Node). n.entrance.source) b-is) (ap (λ (n : Node). n.entrance.most) b-is) (ap (λ (n : Node). n.entrance.above) b-is);
+                from = comes-still a.entrance b.entrance (shows rf feed old) (shows rf feed new) refl refl taken i_is (ap (λ (n : Node). n.entrance.source) b-is) (ap (λ (n : Node). n.entrance.most) b-is) (ap (λ (n : Node). n.entrance.above) b-is);
                 into = ToOutput not_edge
                     (record {
                       gained = gained;
@@ -292,6 +270,10 @@ module _ (shape : Shape) (past : List Entry) (a : Node) (realm : SeenRealm) (sin
                       below = below;
                     });
                 ahead = λ none by to. let f = ahead none in omega arith;
+                near = λ head pieces is. absurd (let f : true ≡ false = sym head.into ∙ not_edge in cc);
+                short = λ fed some. ends-short went.items gain (last some)
+                    (sent-short shape past a b went since fed (opened a.exit.output o gain out (shows rf feed old) (shows rf feed new) out_goes some)
+                    (subst (λ ss. Goes (machines ss) nothing_yet (parts a) (held a) (parts b) (then_told went (held b))) since.led.is_of.stages (out-goes a b went none (below ∙ none) goes-out)));
                 stays = going-acts a b (shows rf feed old) (shows rf feed new) nothing_yet gain goes;
               };
             }

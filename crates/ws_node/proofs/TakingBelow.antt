@@ -1,70 +1,50 @@
 -- A node takes a message of the edge below and delivers it to its realm.
-use Rattle.std.proofs.Common.{◌≡◌, ◌≢◌, ◌⊎◌, inl, inr, ◌+◌, ◌≤◌, ◌<◌, ℕ, zero, suc, nat_eq, Bool, true, false, List, [], ◌∷◌, ◌++◌, length, Option, Some, None, refl, sym, ap, ◌∙◌, subst, append-nil, append_assoc, arith}
-use Rattle.std.specs.List.{concat}
-use Rattle.std.specs.Prelude.{All, Contains, is_some}
-use Rattle.std.proofs.lemmas.Bool.Decides.{nat_tests}
-use Rattle.std.proofs.lemmas.List.Elements.{All-nil, All-cons, Contains-append_right, Contains-push}
+use Rattle.std.proofs.Common.{◌≡◌, ◌⊎◌, inl, inr, ◌+◌, ◌≤◌, ℕ, false, List, [], ◌∷◌, ◌++◌, Option, Some, None, refl, sym, ap, ◌∙◌, subst, arith}
 use Rattle.ws_value.specs.declared.ids.PortId.{PortId}
 use Rattle.ws_value.specs.declared.value.Message.{Message}
-use Rattle.ws_value.specs.declared.value.Message.TheVariants.{Pull, Chunk, Close, Error}
-use Rattle.ws_value.specs.declared.value.Plain.{Plain}
 use Rattle.ws_value.specs.declared.value.Value.{Value}
-use Rattle.ws_value.specs.declared.value.Value.TheVariants.{Plain as PlainValue, Bytes}
-use Rattle.ws_edge.specs.Edge.{AtEdge, given}
-use Rattle.ws_flow.proofs.Ends.{goes_behind}
-use Rattle.ws_flow.proofs.Steps.{goes_enters, goes_rests}
-use Rattle.ws_flow.proofs.Told.{short_trans, short_as, short_left, then_empty}
+use Rattle.ws_port.specs.Ends.{Posted}
+use Rattle.ws_edge.specs.Edge.{AtEdge}
+use Rattle.ws_flow.proofs.Steps.{goes_rests}
+use Rattle.ws_flow.proofs.Told.{then_empty}
 use Rattle.ws_flow.specs.Parts.{AtWork, Goes}
-use Rattle.ws_flow.specs.Rows.{told_by}
 use Rattle.ws_flow.specs.Stages.{machines}
 use Rattle.ws_flow.specs.Steps.{parts_at, behind_of}
-use Rattle.ws_flow.specs.Told.{Open as MayCome, Lost, Told, told, then_told, IsShortOf}
+use Rattle.ws_flow.specs.Told.{Open as MayCome, Told, then_told, IsShortOf}
 use Rattle.ws_io.proofs.Flow.{Gains-nothing}
 use Rattle.ws_io.specs.Moment.{Moment}
-use Rattle.ws_link_laws.specs.Link.{silence, delivered, is_end}
-use Rattle.ws_port.specs.Ends.{Posted}
-use Rattle.ws_steps.specs.declared.calls.Call.{Call}
+use Rattle.ws_link_laws.specs.Link.{silence, delivered}
 use Rattle.ws_steps.specs.declared.calls.Call.TheVariants.{Deliver}
-use Rattle.ws_steps.specs.PortHistory.{posted_in, is_same_port}
+use Rattle.ws_steps.specs.PortHistory.{is_same_port}
 use Rattle.ws_steps.specs.Run.{Entry}
-use Rattle.ws_steps.specs.Slots.{empty}
 use Rattle.ws_chain_laws.proofs.Nodes.{each_nodes_call_brings}
-use Rattle.ws_chain_laws.specs.Chain.{Origin, FromChunks, FromBytes, FromPort, Target, ToSink, ToPort, behind_at, first_giver, source_port, sink_port}
-use Rattle.ws_chain_laws.specs.Nodes.{only_at}
-use Rattle.ws_joined_laws.specs.Reasons.{reasons_in}
-use Rattle.ws_node_laws.specs.Messages.{delivered_to, message_by, taken_events}
-use Rattle.ws_realm.specs.declared.realm.Why.{Why}
-use Rattle.ws_reason_laws.specs.Reasons.{failure_of, delivered_reason}
-use Rattle.ws_stages.specs.State.{State}
+use Rattle.ws_chain_laws.specs.Chain.{Target, ToSink, ToPort, behind_at, source_port, sink_port}
 use Rattle.ws_node.specs.declared.node.Entrance.{Entrance}
-use Rattle.ws_node.specs.declared.node.Exit.{Exit}
-use Rattle.ws_node.specs.declared.node.Input.{Input}
 use Rattle.ws_node.specs.declared.node.Input.TheVariants as input
 use Rattle.ws_node.specs.declared.node.Node.{Node}
-use Rattle.ws_node.specs.Edges.{TakesEnd, TakesNone, TakesAbove, NotAbove, NoMore, NoneAbove, TookAbove, TakesBelow, NotBelow, NoneBelow, TookBelow, Brings, broken_by, takes_more, with_above, with_below}
-use Rattle.ws_node.specs.Messages.{as_fair, fairly, is_fair}
+use Rattle.ws_node.proofs.Changes.{led-below, led-broken}
+use Rattle.ws_node.specs.Edges.{TakesEnd, with_below, BringsUp, breaks_by, broken_after}
+use Rattle.ws_node.specs.Messages.{as_fair}
 use Rattle.ws_node.specs.Moves.{Asks}
-use Rattle.ws_node.specs.Node.{is_edge, feeds_edge, in_bytes, coming, coming_by, coming_behind, lost_by, lying_by, lies, lies_in, lying, held, nothing_yet, parts, stages_in, works_in, port_below, received_at, sent_at, rows_at, waiting_at}
-use Rattle.ws_node.specs.Past.{IsCause, Passed, IsFedAs, FeedsAs, IsGiven, Whole, FirstPart, WithLast, IsDelivered, HasMessages, EndHas, EndsHave, ArePushed, OneAtMost, HasOne, may_have, Led, Since}
+use Rattle.ws_node.specs.Node.{is_edge, in_bytes, coming, coming_by, lying_by, lies_in, lying, nothing_yet, parts, stages_in, works_in, port_below, waiting_at, received_at, given_at}
+use Rattle.ws_node.specs.Past.{FeedsAs, EndHas, EndsHave, OneAtMost, HasOne, may_have, Since}
 use Rattle.ws_node.specs.Shape.{Shape, count_in, enters_in}
-use Rattle.ws_node.specs.Went.{EdgeGoes, EndGrows, ComesIn, ByEdge, GoesOut, ToEdge}
-use Rattle.ws_node.proofs.Changes.{led-above, led-below}
-use Rattle.ws_node.proofs.Fair.{IsShort, told-short}
+use Rattle.ws_node.specs.Went.{ToEdge}
 use Rattle.ws_node.proofs.Fairly.{as-fair-is}
-use Rattle.ws_node.proofs.Going.{as-many, works-count, going-acts, went-same, comes-quietly, goes-quietly, held-goes, only-same, fairly-then, reasons-then}
+use Rattle.ws_node.proofs.Going.{as-many, works-count, comes-quietly, only-same}
 use Rattle.ws_node.proofs.Handled.{Handled}
-use Rattle.ws_node.proofs.Ones.{all-more}
-use Rattle.ws_node.proofs.Posting.{Grows, grows-same, looked-grow, ends-handled, with_ends, GoesBy, went-of}
-use Rattle.ws_node.proofs.Since.{AfterCall, Delivers, Delivered, Undelivered, MayAsk, MayFail, AllHaveCauses, FromBelow, since-asks}
-use Rattle.ws_node.proofs.Delivering.{port-is, sink-apart, more-edge, from-edge, comes, breaks, still-edge, reason-caused, last-reason, given-on, delivered-on, end-on, received-more, received-only, same-port, other-port, taken-by, other-delivered, ports-differ, other-above, not-first, stopped-none, may-fail, feeds-edge, same-sink, held-waits, grown, older-pushes}
+use Rattle.ws_node.proofs.Delivering.{port-is, sink-apart, end-on, taken-by, other-delivered, other-above, stopped-none, may-fail, feeds-edge, same-sink, held-waits, grown, older-pushes}
+use Rattle.ws_node.proofs.Nearing.{near-taken}
+use Rattle.ws_node.proofs.Posting.{GoesBy, went-of}
+use Rattle.ws_node.proofs.Since.{AfterCall, since-asks}
 
 module _ (shape : Shape) (past : List Entry) (a b : Node) (t : Moment) (p : List ℕ → Type 0) (s : Since shape past a) (goes : a.core.stopped ≡ None) (m : Message) (e f : AtEdge)
-    (took : TakesEnd m e f) (is : a.exit.below ≡ Some e) (asks : Asks (Deliver (port_below a.entrance) (as_fair m)) (with_below f a) b) where
+    (took : TakesEnd m e f) (is : a.exit.below ≡ Some e) (asks : BringsUp (port_below a.entrance) (as_fair m) (with_below f a) b) where
   abbrev x : Message
   x = as_fair m
 
   abbrev n : Node
-  n = with_below f a
+  n = breaks_by x (with_below f a)
 
   abbrev port : PortId
   port = sink_port shape.origin
@@ -79,7 +59,7 @@ module _ (shape : Shape) (past : List Entry) (a b : Node) (t : Moment) (p : List
     by ToPort g = refl
 
   after : AfterCall shape past (Deliver port x) n b
-  after = since-asks shape past n b (Deliver port x) (led-below shape past a e f is s.led)
+  after = since-asks shape past n b (Deliver port x) (led-broken shape past (with_below f a) (broken_after x a.exit.broken) (led-below shape past a e f is s.led))
       (record { is_own = tt; clones = as-fair-is m; failed = may-fail shape n x feeds; closes = λ id g. absurd (cc); flushes = λ id i g. absurd (cc) }) asked
 
   items : b.core.stages.items ≡ a.core.stages.items
@@ -111,6 +91,9 @@ module _ (shape : Shape) (past : List Entry) (a b : Node) (t : Moment) (p : List
   waits-same : waiting_at b.exit.below ≡ waiting_at a.exit.below
   waits-same = ap waiting_at below_is ∙ (took.waiting ∙ ap waiting_at (sym is))
 
+  given-same : given_at b.exit.below ≡ given_at a.exit.below
+  given-same = ap given_at below_is ∙ (ap (λ (q : Posted). q.sent ++ f.waiting) took.to ∙ (ap (λ ms. e.to.sent ++ ms) took.waiting ∙ ap given_at (sym is)))
+
   took_on : GoesBy a b t t p p
   took_on =
       let same = only-same n b after.only in
@@ -139,6 +122,10 @@ module _ (shape : Shape) (past : List Entry) (a b : Node) (t : Moment) (p : List
           sink = same.sink;
         });
         ahead = λ none by to. let ahead = ap (λ (q : Entrance). q.ahead) entrance_is in omega arith;
+        near = λ head pieces is_near.
+            near-taken a b m pieces goes given-same (ap received_at below_is ∙ (took.received ∙ ap (λ (o : Option AtEdge). received_at o ++ m ∷ []) (sym is)))
+            (ap (λ (q : Node). q.exit.broken) after.only.is) (ap (λ (q : Entrance). q.ahead) entrance_is) is_near;
+        short = λ fed some. absurd (omega arith);
       }
 
   one-rests : HasOne b

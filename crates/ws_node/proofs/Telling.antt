@@ -1,5 +1,5 @@
 -- A node that finds no memory tells its neighbours so: an error waits behind all that was given to the ends of its edges, and what waits is posted.
-use Rattle.std.proofs.Common.{◌≡◌, ◌≢◌, ◌+◌, ◌≤◌, ℕ, Bool, true, false, ◌||◌, if◌then◌else◌, List, [], ◌∷◌, ◌++◌, length, Option, Some, None, refl, sym, ap, ◌∙◌, subst, append-nil, append_assoc, arith}
+use Rattle.std.proofs.Common.{◌≡◌, ◌+◌, ℕ, Bool, true, false, if◌then◌else◌, List, [], ◌∷◌, ◌++◌, length, Option, Some, None, refl, sym, ap, ◌∙◌, subst, append-nil, append_assoc, arith}
 use Rattle.std.specs.List.{concat}
 use Rattle.ws_value.specs.declared.fault.Fault.TheVariants.{NoMemory as NoMemoryFault}
 use Rattle.ws_value.specs.declared.ids.PortId.{PortId}
@@ -14,24 +14,25 @@ use Rattle.ws_flow.proofs.Told.{then_assoc, then_empty}
 use Rattle.ws_flow.specs.Rows.{told_by}
 use Rattle.ws_flow.specs.Told.{Mark, Open as MayCome, Closed, Broken, Lost, Told, told, then_told}
 use Rattle.ws_io.specs.Moment.{Moment}
-use Rattle.ws_steps.specs.PortHistory.{is_end, has_end, posted_in}
+use Rattle.ws_steps.specs.PortHistory.{has_end, posted_in}
 use Rattle.ws_steps.specs.Run.{Entry}
 use Rattle.ws_steps.specs.Slots.{empty}
 use Rattle.ws_chain_laws.specs.Chain.{behind_at, source_port, sink_port}
-use Rattle.ws_node_laws.specs.Messages.{delivered_to, taken_events}
+use Rattle.ws_node_laws.specs.Messages.{taken_events}
 use Rattle.ws_realm.specs.declared.realm.Why.{Why}
 use Rattle.ws_realm.specs.declared.realm.Why.TheVariants as why
 use Rattle.ws_node.specs.declared.node.Exit.{Exit}
 use Rattle.ws_node.specs.declared.node.Node.{Node}
-use Rattle.ws_node.specs.Edges.{PostsBoth, TellsBoth, tells_at}
-use Rattle.ws_node.specs.Node.{in_bytes, coming, held, lies_in, lying, lying_by, nothing_yet, received_at, rows_at, sent_at, stages_in, waiting_at, works_in}
-use Rattle.ws_node.specs.Past.{IsGiven, Whole, FirstPart, WithLast, EndHas, EndsHave, HasOne, IsFed, Led, Since, Driven}
+use Rattle.ws_node.specs.Edges.{TellsBoth, tells_at}
+use Rattle.ws_node.specs.Node.{in_bytes, coming, held, lies_in, lying, lying_by, nothing_yet, received_at, rows_at, sent_at, waiting_at, works_in}
+use Rattle.ws_node.specs.Past.{IsGiven, Whole, FirstPart, WithLast, EndHas, EndsHave, IsFed, Led, Since, Driven}
 use Rattle.ws_node.specs.Shape.{Shape}
 use Rattle.ws_node.specs.Went.{EndGrows, GoesOut, Went}
-use Rattle.ws_node.proofs.Going.{comes-then, core-then, fed-went, outs-then}
-use Rattle.ws_node.proofs.Posting.{Grows, GoesBy, core-posts, end-same, from-posts, goes-of, grows-received, into-posts, led-ends, posts-grow, waits-is, went-of, with_ends}
+use Rattle.ws_node.proofs.Going.{comes-then, core-then, fed-went, outs-then, head-stays, short-then}
+use Rattle.ws_node.proofs.Nearing.{near-stopped, near-then}
+use Rattle.ws_node.proofs.Posting.{Grows, GoesBy, core-posts, end-same, from-posts, grows-received, into-posts, led-ends, posts-grow, waits-is, went-of, with_ends}
 
-abbrev wanting : Plain
+abbrev pub wanting : Plain
 wanting = FaultReason NoMemoryFault
 
 -- the end as it is told
@@ -69,17 +70,17 @@ ends-so : (ms : List Message) (r : Plain) → has_end (ms ++ Error r ∷ []) ≡
 ends-so [] r = refl
 ends-so (m ∷ ms) r = grind (arith, ends-so ms r)
 
-last-given : (posted ms : List Message) (w : Why) (b : Bool) → has_end ms ≡ b → IsGiven posted ms (Some w) → IsGiven posted (ms ++ (if b then [] else Error wanting ∷ [])) (Some w)
-last-given posted ms w true e h = subst (λ xs. IsGiven posted xs (Some w)) (sym (append-nil ms)) h
-last-given posted ms w false e (Whole is) = WithLast (λ f. cc) ms [] (sym is ∙ sym (append-nil ms)) e refl
-last-given posted ms w false e (FirstPart s rest is) = WithLast s ms rest is e refl
-last-given posted ms w false e (WithLast s first rest is none all) = absurd (let f : has_end ms ≡ true = ap has_end all ∙ ends-so first wanting in cc)
+pub last-given : (posted ms : List Message) (b : Bool) → has_end ms ≡ b → IsGiven posted ms (Some why.NoMemory) → IsGiven posted (ms ++ (if b then [] else Error wanting ∷ [])) (Some why.NoMemory)
+last-given posted ms true e h = subst (λ xs. IsGiven posted xs (Some why.NoMemory)) (sym (append-nil ms)) h
+last-given posted ms false e (Whole is) = WithLast refl ms [] (sym is ∙ sym (append-nil ms)) e refl
+last-given posted ms false e (FirstPart s rest is) = WithLast s ms rest is e refl
+last-given posted ms false e (WithLast s first rest is none all) = absurd (let f : has_end ms ≡ true = ap has_end all ∙ ends-so first wanting in cc)
 
-tell-has : (port : PortId) (past : List Entry) (w : Why) (o : Option AtEdge) → EndHas port past (Some w) o → EndHas port past (Some w) (tell_of o)
-tell-has port past w None h = tt
-tell-has port past w (Some e) h = record {
-  given = subst (λ xs. IsGiven (posted_in port (taken_events past empty)) xs (Some w)) (append_assoc e.to.sent e.waiting (last_error wanting e))
-      (last-given (posted_in port (taken_events past empty)) (given e) w (has_end (given e)) refl h.given);
+tell-has : (port : PortId) (past : List Entry) (o : Option AtEdge) → EndHas port past (Some why.NoMemory) o → EndHas port past (Some why.NoMemory) (tell_of o)
+tell-has port past None h = tt
+tell-has port past (Some e) h = record {
+  given = subst (λ xs. IsGiven (posted_in port (taken_events past empty)) xs (Some why.NoMemory)) (append_assoc e.to.sent e.waiting (last_error wanting e))
+      (last-given (posted_in port (taken_events past empty)) (given e) (has_end (given e)) refl h.given);
   taken = h.taken;
 }
 
@@ -104,7 +105,7 @@ tell-held n w e =
     let lost = lying-lost n w e in
     ap (then_told (told_by (waiting_at n.exit.below))) lost ∙ (tell-waits n.exit.below ∙ ap (then_told (told_by (waiting_at (tell_of n.exit.below)))) (sym lost))
 
-module _ (shape : Shape) (past : List Entry) (n : Node) (w : Why) (stopped : n.core.stopped ≡ Some w) (q r : Option AtEdge) (up : Grows (tell_of n.entrance.above) q) (down : Grows (tell_of n.exit.below) r) where
+module _ (shape : Shape) (past : List Entry) (n : Node) (stopped : n.core.stopped ≡ Some why.NoMemory) (q r : Option AtEdge) (up : Grows (tell_of n.entrance.above) q) (down : Grows (tell_of n.exit.below) r) where
   told-goes : (m : Moment) (p : List ℕ → Type 0) → Led shape past n → GoesBy n (with_ends q r n) m m p p
   told-goes m p s =
       record {
@@ -112,10 +113,13 @@ module _ (shape : Shape) (past : List Entry) (n : Node) (w : Why) (stopped : n.c
         went = told_by down.posted;
         gain = [];
         out = MayCome;
-        core = core-posts n q r down.posted (tell-held n w stopped ∙ waits-is (waiting_at (tell_of n.exit.below)) down.posted (waiting_at r) (lying n) down.rest);
+        core = core-posts n q r down.posted (tell-held n why.NoMemory stopped ∙ waits-is (waiting_at (tell_of n.exit.below)) down.posted (waiting_at r) (lying n) down.rest);
         from = from-posts shape.origin n.entrance q up.posted m s.is_of.from (tell-grows n.entrance.above q up);
         into = into-posts shape.target n.exit r down.posted m p s.is_of.into (tell-grows n.exit.below r down);
         ahead = λ none by to. omega arith;
+        near = λ head pieces is.
+            near-stopped n (with_ends q r n) why.NoMemory pieces stopped (grows-received (tell_of n.exit.below) r down ∙ tell-received n.exit.below) refl is;
+        short = λ fed some. absurd (omega arith);
       }
 
   told-led : Led shape past n → Led shape past (with_ends q r n)
@@ -126,7 +130,7 @@ module _ (shape : Shape) (past : List Entry) (n : Node) (w : Why) (stopped : n.c
   told-has : (port : PortId) (o z : Option AtEdge) → Grows (tell_of o) z → EndHas port past n.core.stopped o → EndHas port past n.core.stopped z
   told-has port o z g h =
       subst (λ x. EndHas port past x z) (sym stopped)
-      (end-same port past (Some w) (tell_of o) z g (tell-has port past w o (subst (λ x. EndHas port past x o) stopped h)))
+      (end-same port past (Some why.NoMemory) (tell_of o) z g (tell-has port past o (subst (λ x. EndHas port past x o) stopped h)))
 
   told-ends : EndsHave shape past n → EndsHave shape past (with_ends q r n)
   told-ends h = record { above = told-has source_port n.entrance.above q up h.above; below = told-has (sink_port shape.origin) n.exit.below r down h.below }
@@ -145,21 +149,21 @@ pub record ToldAll (a c : Node) (m₀ m₁ : Moment) (p q : List ℕ → Type 0)
   pub driven : Driven c
   pub went : Went a c m₀ m₁ p q
 
-pub tells : (a d c : Node) (m₀ m₁ : Moment) (p q : List ℕ → Type 0) → Driven a → a.core.stopped ≡ None → Went a d m₀ m₁ p q → Driven d → (w : Why) → d.core.stopped ≡ Some w → TellsBoth d c
+pub tells : (a d c : Node) (m₀ m₁ : Moment) (p q : List ℕ → Type 0) → Driven a → a.core.stopped ≡ None → Went a d m₀ m₁ p q → Driven d → d.core.stopped ≡ Some why.NoMemory → TellsBoth d c
     → ToldAll a c m₀ m₁ p q
 unfolding told-goes
-tells a d c m₀ m₁ p q start goes on now w stopped h =
+tells a d c m₀ m₁ p q start goes on now stopped h =
     subst (λ (n : Node). ToldAll a n m₀ m₁ p q) (sym (h.posts.is ∙ ap (λ (n : Node). with_ends above below n) h.is))
     (record {
       driven = record {
         shape = now.shape;
         past = now.past;
         since = record {
-          led = told-led now.shape now.past d w stopped above below up down s.led;
+          led = told-led now.shape now.past d stopped above below up down s.led;
           pushes = s.pushes;
           one = s.one;
           fed = subst (λ ss. IsFed ss told) (sym same) (fed-went start.shape.stages a told m₀ m₁ p q start.since.fed start.since.led.is_of.stages whole);
-          ends = told-ends now.shape now.past d w stopped above below up down s.ends;
+          ends = told-ends now.shape now.past d stopped above below up down s.ends;
         };
       };
       went = whole;
@@ -183,7 +187,7 @@ tells a d c m₀ m₁ p q start goes on now w stopped h =
       down = subst (λ o. Grows o below) (tells-is d.exit.below h.mid.exit.below h.tells_below) (posts-grow h.posts.below h.mid.exit.below below h.posts.posts_below)
 
       more : GoesBy d told m₁ m₁ q q
-      more = told-goes now.shape now.past d w stopped above below up down m₁ q s.led
+      more = told-goes now.shape now.past d stopped above below up down m₁ q s.led
 
       whole : Went a told m₀ m₁ p q
       whole =
@@ -201,6 +205,10 @@ tells a d c m₀ m₁ p q start goes on now w stopped h =
                 let read : length (concat (then_told on.read nothing_yet).items) ≡ length (concat on.read.items) = ap (λ (t : Told (List ℕ)). length (concat t.items)) kept in
                 let gain : length (on.gain ++ []) ≡ length on.gain = ap length (append-nil on.gain) in
                 omega arith;
+            near = λ head pieces is.
+                near-then pieces on.read nothing_yet told
+                (more.near (head-stays a d m₀ m₁ p q on.read on.went on.gain on.out on.core.moves.0.stages on.from on.into head) (pieces + length on.read.items) (on.near head pieces is));
+            short = λ fed some. short-then on.went more.went on.gain [] (λ h. absurd (omega arith)) (on.short fed) (λ h. absurd (omega arith)) some;
           })
 
       same : now.shape.stages ≡ start.shape.stages

@@ -1,29 +1,28 @@
 -- A turn of a node: it posts, takes a message at each end, and goes on; and what it answers.
-use Rattle.std.proofs.Common.{◌≡◌, ◌≢◌, ◌+◌, ◌≤◌, ◌<◌, ℕ, Bool, true, false, ◌||◌, ◌&&◌, if◌then◌else◌, is_some, List, [], ◌∷◌, ◌++◌, length, Option, Some, None, refl, sym, ap, ◌∙◌, subst, length-append, arith}
+use Rattle.std.proofs.Common.{◌≡◌, ◌+◌, ◌≤◌, ◌<◌, ℕ, Bool, true, false, ◌||◌, ◌&&◌, if◌then◌else◌, is_some, List, [], ◌∷◌, ◌++◌, length, Option, Some, None, refl, sym, ap, ◌∙◌, subst, length-append, arith}
 use Rattle.ws_value.specs.declared.ids.PortId.{PortId}
 use Rattle.ws_value.specs.declared.value.Message.{Message}
 use Rattle.ws_edge.specs.Edge.{AtEdge, FindsFull, FindsNone}
 use Rattle.ws_io.specs.Moment.{Moment, moment}
 use Rattle.ws_port.specs.Ends.{Posted, Taken}
 use Rattle.ws_steps.specs.declared.calls.Call.{Call}
-use Rattle.ws_steps.specs.declared.calls.Call.TheVariants.{Deliver}
 use Rattle.ws_steps.specs.Queues.{is_empty}
 use Rattle.ws_steps.specs.Run.{Entry, Worked as JobWorked, Heard, is_idle, run}
-use Rattle.ws_steps.specs.Slots.{Slots, is_live}
+use Rattle.ws_steps.specs.Slots.{is_live}
 use Rattle.ws_chain_laws.specs.Chain.{source_port}
-use Rattle.ws_realm.specs.declared.realm.Why.{Why}
 use Rattle.ws_realm.specs.declared.realm.Why.TheVariants as why
 use Rattle.ws_node.specs.declared.node.Core.{Core}
 use Rattle.ws_node.specs.declared.node.Entrance.{Entrance}
 use Rattle.ws_node.specs.declared.node.Exit.{Exit}
 use Rattle.ws_node.specs.declared.node.Node.{Node}
-use Rattle.ws_node.specs.Edges.{PostsEnd, posts_at, PostsBoth, NoneHeld, NoEnd, HasStopped, NotLive, TakesEnd, TakesNone, TakesAbove, NotAbove, NoMore, NoneAbove, TookAbove, TakesBelow, NotBelow, NoneBelow, TookBelow, takes_more, with_above, with_below}
+use Rattle.ws_node.specs.Edges.{posts_at, PostsBoth, TellsBoth, NoneHeld, NoEnd, HasStopped, NotLive, TakesAbove, NotAbove, NoMore, NoneAbove, TookAbove, TakesBelow, NotBelow, NoneBelow, TookBelow, takes_more}
 use Rattle.ws_node.specs.Moves.{Asks, Performed, Refused}
 use Rattle.ws_node.specs.Node.{is_busy, port_below, received_at, sent_at}
 use Rattle.ws_node.specs.Past.{Driven}
-use Rattle.ws_node.specs.Turns.{GoesBy, IsBegun, JobFirst, EventFirst, SameEnds, HasSent, TookOne, PostedOne, IsQuietEnd, AreQuiet, HasDone, SentAbove, SentBelow, Begun}
+use Rattle.ws_node.specs.Turns.{GivesHeard, PostsHeard, GoesBy, IsBegun, JobFirst, EventFirst, SameEnds, TookOne, PostedOne, IsQuietEnd, AreQuiet, HasDone, SentAbove, SentBelow, Begun}
 use Rattle.ws_node.specs.Went.{ComesIn, ByInput, ByEdge, GoesOut, ToOutput, ToEdge, Went}
-use Rattle.ws_node.proofs.Going.{went-then}
+use Rattle.ws_node.proofs.Giving.{gives-post, gives-then, posts-give, takes-above-give, takes-below-give, tells-give}
+use Rattle.ws_node.proofs.Going.{Stays, went-then}
 use Rattle.ws_node.proofs.Handled.{Handled, since-handled, driven-handled}
 use Rattle.ws_node.proofs.Posting.{posts}
 use Rattle.ws_node.proofs.Taking.{takes-above, takes-below}
@@ -59,6 +58,30 @@ module _ (a b t u : Node) (posted up down : Bool) (s : Begins a b t u posted up 
 
   pub begins-driven : Driven u
   begins-driven = begins-driven-at (moment 0 None 0 None) (λ xs. Unit {0})
+
+  begins-stay : (x y : Node) (m : Moment) (p : List ℕ → Type 0) → Went x y m m p p → Stays x y
+  begins-stay x y m p w why e = (w.stays why e).same
+
+  pub begins-give : GivesHeard a u
+  begins-give =
+      let m : Moment = moment 0 None 0 None in
+      let p : List ℕ → Type 0 = λ xs. Unit {0} in
+      gives-then a t u (begins-stay t u m p (third m p).went)
+      (gives-then a b t (begins-stay b t m p (second m p).went) (posts-give posted a b s.post) (takes-above-give up b t s.above)) (takes-below-give down t u s.below)
+
+  -- and then it goes on
+  pub turn-goes : (d : Node) (m n : Moment) (p q : List ℕ → Type 0) → Went u d m n p q → Went a d m n p q
+  turn-goes d m n p q on = went-then a u d m m n p p q (begins-went m p) on
+
+  turn-gives : (d : Node) (m n : Moment) (p q : List ℕ → Type 0) → Went u d m n p q → GivesHeard u d → GivesHeard a d
+  turn-gives d m n p q on gives = gives-then a u d (λ why e. (on.stays why e).same) begins-give gives
+
+  pub turn-posts : (d : Node) (m n : Moment) (p q : List ℕ → Type 0) → Went u d m n p q → GivesHeard u d → PostsHeard a d
+  turn-posts d m n p q on gives = gives-post a d m n p q (turn-goes d m n p q on) (turn-gives d m n p q on gives)
+
+  -- or finds no memory, and tells its neighbours so
+  pub told-posts : (d e : Node) (m n : Moment) (p q : List ℕ → Type 0) → Went u d m n p q → GivesHeard u d → d.core.stopped ≡ Some why.NoMemory → TellsBoth d e → Went a e m n p q → PostsHeard a e
+  told-posts d e m n p q on gives full tells whole = gives-post a e m n p q whole (tells-give a d e full (turn-gives d m n p q on gives) tells)
 
   posted-went : (m n : Moment) (p q : List ℕ → Type 0) (d : Node) → Went u d m n p q → Went b d m n p q
   posted-went m n p q d on = went-then b u d m m n p p q (went-then b t u m m m p p p (second m p).went (third m p).went) on

@@ -1,7 +1,6 @@
 -- What a port posts waits at its end.
-use Rattle.std.proofs.Common.{◌≡◌, ◌≢◌, ◌⊎◌, inl, inr, ◌+◌, ◌≤◌, ◌<◌, ℕ, zero, suc, Bool, true, false, List, [], ◌∷◌, ◌++◌, length, Option, Some, None, refl, sym, ap, ◌∙◌, subst, append-nil, append_assoc, arith}
-use Rattle.std.specs.List.{concat}
-use Rattle.std.specs.Prelude.{All, is_some, nat_eq}
+use Rattle.std.proofs.Common.{◌≡◌, ◌⊎◌, inl, inr, ◌+◌, ◌≤◌, ◌<◌, ℕ, Bool, true, false, List, [], ◌∷◌, ◌++◌, length, Option, Some, None, refl, sym, ap, ◌∙◌, subst, append-nil, append_assoc, arith}
+use Rattle.std.specs.Prelude.{All, is_some, min}
 use Rattle.std.proofs.lemmas.List.Elements.{All-head, All-nil, All-tail}
 use Rattle.ws_value.specs.declared.ids.PortId.{PortId}
 use Rattle.ws_value.specs.declared.value.Message.{Message}
@@ -17,15 +16,15 @@ use Rattle.ws_flow.specs.Parts.{AtWork, Goes}
 use Rattle.ws_flow.specs.Rows.{told_by}
 use Rattle.ws_flow.specs.Stages.{machines}
 use Rattle.ws_flow.specs.Steps.{parts_at, behind_of}
-use Rattle.ws_flow.specs.Told.{Open as MayCome, Lost, Told, told, then_told, IsShortOf}
+use Rattle.ws_flow.specs.Told.{Open as MayCome, Told, told, then_told, IsShortOf}
 use Rattle.ws_io.specs.Gain.{Gains}
 use Rattle.ws_io.specs.Moment.{Moment}
-use Rattle.ws_laws.proofs.Tables.{eq_numbers, is_same-refl}
+use Rattle.ws_laws.proofs.Tables.{eq_numbers}
 use Rattle.ws_link_laws.specs.Link.{silence, heard_post, is_port}
 use Rattle.ws_stages.specs.State.{State}
 use Rattle.ws_steps.specs.declared.calls.Event.{Event}
 use Rattle.ws_steps.specs.declared.calls.Event.TheVariants.{Post}
-use Rattle.ws_steps.specs.PortHistory.{is_same_port, posted_by, posted_in}
+use Rattle.ws_steps.specs.PortHistory.{chunk_in, is_same_port, posted_by, posted_in}
 use Rattle.ws_steps.specs.Run.{Entry, Heard}
 use Rattle.ws_steps.specs.Slots.{empty}
 use Rattle.ws_chain_laws.proofs.Nodes.{each_event_is_heard_at_one_link}
@@ -38,25 +37,26 @@ use Rattle.ws_realm.specs.declared.realm.Why.{Why}
 use Rattle.ws_realm.specs.declared.realm.Why.TheVariants.{NoMemory}
 use Rattle.ws_node.specs.declared.node.Abort.{Abort}
 use Rattle.ws_node.specs.declared.node.Entrance.{Entrance}
-use Rattle.ws_node.specs.declared.node.Exit.{Exit}
 use Rattle.ws_node.specs.declared.node.Node.{Node}
 use Rattle.ws_node.specs.declared.node.Output.{Output}
 use Rattle.ws_node.specs.declared.node.Output.TheVariants as output
-use Rattle.ws_node.specs.Edges.{WaitsAt, Waiting, NoRoom, NoEdge, WaitsAbove, WaitsBelow, Waits, waits_by, had_as, had_entrance, with_above, with_below}
+use Rattle.ws_node.specs.Edges.{Waiting, NoRoom, NoEdge, WaitsAbove, WaitsBelow, Waits, waits_by, had_as, had_entrance, with_above, with_below}
 use Rattle.ws_node.specs.Moves.{stopped_by, with_realm}
-use Rattle.ws_node.specs.Node.{feeds_edge, is_edge, given_at, held, in_bytes, lies_in, lying, nothing_yet, parts, stages_in, waiting_at, works_in, port_below, coming}
-use Rattle.ws_node.specs.Past.{IsFedAs, FeedsAs, IsGiven, Whole, FirstPart, WithLast, IsDelivered, HasMessages, EndHas, EndsHave, ArePushed, OneAtMost, HasOne, may_have, Led, Since}
+use Rattle.ws_node.specs.Near.{IsNear}
+use Rattle.ws_node.specs.Node.{feeds_edge, is_edge, held, in_bytes, lies_in, lying, nothing_yet, parts, stages_in, waiting_at, works_in, port_below, coming, given_at, received_at}
+use Rattle.ws_node.specs.Past.{IsFedAs, FeedsAs, IsGiven, Whole, FirstPart, WithLast, IsDelivered, HasMessages, EndHas, EndsHave, ArePushed, HasOne, may_have, Led, Since}
 use Rattle.ws_node.specs.Shape.{Shape, count_in, hears_in}
 use Rattle.ws_node.specs.Went.{EndGrows, ComesIn, ByEdge, GoesOut, ToEdge}
 use Rattle.ws_node.proofs.Bytes.{lost-short}
 use Rattle.ws_node.proofs.Changes.{led-ahead, led-at-above, led-below, led-stopped}
 use Rattle.ws_node.proofs.Delivering.{port-is, feeds-edge, other-above, same-sink}
 use Rattle.ws_node.proofs.Going.{as-many, works-count, going-acts, comes-quietly, goes-quietly, held-goes}
-use Rattle.ws_node.proofs.Handing.{lies_to, heard-lies, unheard-lies, one-quiet}
+use Rattle.ws_node.proofs.Handing.{heard-lies, unheard-lies, one-quiet}
 use Rattle.ws_node.proofs.Handled.{Handled}
 use Rattle.ws_node.proofs.Legal.{Rests, rests-legal}
+use Rattle.ws_node.proofs.Nearing.{near-given, near-same, near-stopped}
 use Rattle.ws_node.proofs.Posting.{edge-rests}
-use Rattle.ws_node.proofs.Quiet.{posted-append, end-since}
+use Rattle.ws_node.proofs.Quiet.{posted-append, stays-as, stays-going, end-since}
 use Rattle.ws_node.proofs.Since.{AfterEvent, stages-count}
 use Rattle.ws_node.proofs.Unheard.{at-there, at-elsewhere}
 
@@ -74,7 +74,7 @@ last-of : (P : Message → Type 0) (xs : List Message) (m : Message) → All P (
 last-of P [] m a = All-head P m [] a
 last-of P (x ∷ xs) m a = last-of P xs m (All-tail P x (xs ++ m ∷ []) a)
 
-the-port : (c d : PortId) → is_same_port c d ≡ true → d ≡ c
+pub the-port : (c d : PortId) → is_same_port c d ≡ true → d ≡ c
 the-port c d e = ap (λ (x : ℕ). let z : PortId = record { 0 = x } in z) (sym (eq_numbers c.0 d.0 e))
 
 -- the port of a sink of the node's own is none
@@ -90,17 +90,18 @@ no-have output.Failed x e h = absurd (cc)
 no-have output.Aborted x e h = absurd (cc)
 
 -- what was had is counted off
-record HadBy (x y : Entrance) : Type 0 where
+record HadBy (m : Message) (x y : Entrance) : Type 0 where
   left : ℕ
   few : left ≤ x.ahead
+  enough : min x.ahead 1 ≤ length (chunk_in m) + min left 1
   is : y ≡ record x { ahead = left }
 
-had-is : (m : Message) (x : Entrance) → HadBy x (had_entrance m x)
-had-is (Chunk (Bytes b)) x = record { left = _; few = omega arith; is = refl }
-had-is (Chunk (PlainValue v)) x = record { left = x.ahead; few = omega arith; is = refl }
-had-is Pull x = record { left = x.ahead; few = omega arith; is = refl }
-had-is Close x = record { left = x.ahead; few = omega arith; is = refl }
-had-is (Error r) x = record { left = x.ahead; few = omega arith; is = refl }
+had-is : (m : Message) (x : Entrance) → HadBy m x (had_entrance m x)
+had-is (Chunk (Bytes b)) x = record { left = _; few = omega arith; enough = omega arith; is = refl }
+had-is (Chunk (PlainValue v)) x = record { left = x.ahead; few = omega arith; enough = omega arith; is = refl }
+had-is Pull x = record { left = x.ahead; few = omega arith; enough = omega arith; is = refl }
+had-is Close x = record { left = x.ahead; few = omega arith; enough = omega arith; is = refl }
+had-is (Error r) x = record { left = x.ahead; few = omega arith; enough = omega arith; is = refl }
 
 -- An end of which more was told
 
@@ -109,11 +110,11 @@ end-told : (port : PortId) (past ys : List Entry) (e : Event) (stopped : Option 
 end-told port past ys e stopped o told none same h =
     end-since port past ys stopped stopped o
     (ap (posted_in port) told ∙ (posted-append port (taken_events past empty) (e ∷ []) ∙ (ap (λ ms. posted_in port (taken_events past empty) ++ (ms ++ [])) none ∙ append-nil (posted_in port (taken_events past empty)))))
-    same (λ f. f) h
+    same (stays-as stopped) h
 
 -- where the realm stopped besides
 end-stopped : (port : PortId) (ys : List Entry) (why : Why) (o : Option AtEdge) → EndHas port ys None o → EndHas port ys (Some why) o
-end-stopped port ys why o h = end-since port ys ys None (Some why) o refl refl (λ f. absurd (cc)) h
+end-stopped port ys why o h = end-since port ys ys None (Some why) o refl refl (stays-going None (Some why) refl) h
 
 posted-more : (port : PortId) (past ys : List Entry) (m : Message) → taken_events ys empty ≡ taken_events past empty ++ Post port m ∷ [] → is_same_port port port ≡ true
     → posted_in port (taken_events ys empty) ≡ posted_in port (taken_events past empty) ++ m ∷ []
@@ -122,8 +123,8 @@ posted-more port past ys m told same =
 
 given-whole : (posted ms : List Message) → IsGiven posted ms None → ms ≡ posted
 given-whole posted ms (Whole e) = e
-given-whole posted ms (FirstPart s rest e) = absurd (s refl)
-given-whole posted ms (WithLast s first rest e none is) = absurd (s refl)
+given-whole posted ms (FirstPart s rest e) = absurd (cc)
+given-whole posted ms (WithLast s first rest e none is) = absurd (cc)
 
 -- it waits there
 end-waits : (port : PortId) (past ys : List Entry) (m : Message) (e : AtEdge) → taken_events ys empty ≡ taken_events past empty ++ Post port m ∷ [] → is_same_port port port ≡ true
@@ -136,11 +137,11 @@ end-waits port past ys m e told same delivered h =
     }
 
 -- or there was no room
-end-full : (port : PortId) (past ys : List Entry) (m : Message) (e : AtEdge) (why : Why) → taken_events ys empty ≡ taken_events past empty ++ Post port m ∷ [] → is_same_port port port ≡ true
-    → delivered_to port ys ≡ delivered_to port past → HasMessages port past None e → HasMessages port ys (Some why) e
-end-full port past ys m e why told same delivered h =
+end-full : (port : PortId) (past ys : List Entry) (m : Message) (e : AtEdge) → taken_events ys empty ≡ taken_events past empty ++ Post port m ∷ [] → is_same_port port port ≡ true
+    → delivered_to port ys ≡ delivered_to port past → HasMessages port past None e → HasMessages port ys (Some NoMemory) e
+end-full port past ys m e told same delivered h =
     record {
-      given = FirstPart (λ f. cc) (m ∷ [])
+      given = FirstPart refl (m ∷ [])
           (posted-more port past ys m told same ∙ ap (λ ms. ms ++ m ∷ []) (sym (given-whole (posted_in port (taken_events past empty)) (given e) h.given)));
       taken = let k : IsDelivered (delivered_to port past) e.from.received None = h.taken in
           record { rest = k.rest; first = k.first ∙ ap (λ d. d ++ k.rest) (sym delivered); all = λ f. absurd (cc) };
@@ -176,8 +177,9 @@ module _ (shape : Shape) (past : List Entry) (a : Node) (realm : SeenRealm) (t :
   waited : (b : Node) → Led shape ys b → (b.core.stopped ≡ None → ArePushed b.core.realm.slots.age b.core.stages.items) → HasOne b → EndsHave shape ys b → stages_in b.core ≡ stages_in a.core
       → Goes (machines (stages_in a.core)) nothing_yet (parts a) (held a) (parts b) (held b) → b.core.pipe ≡ a.core.pipe → b.core.pipes_before ≡ a.core.pipes_before → b.core.first ≡ a.core.first
       → ComesIn a.entrance b.entrance t t nothing_yet → GoesOut a.exit b.exit t t p q nothing_yet [] MayCome
-      → (a.core.stages.items ≡ [] → is_edge a.entrance.input ≡ false → feeds_edge a.exit.output ≡ false → a.entrance.ahead ≤ b.entrance.ahead) → Handled shape a b t t p q
-  waited b led pushes one ends stages on pipe pipes first from into ahead =
+      → (a.core.stages.items ≡ [] → is_edge a.entrance.input ≡ false → feeds_edge a.exit.output ≡ false → a.entrance.ahead ≤ b.entrance.ahead)
+      → ((pieces : ℕ) → IsNear pieces a → IsNear (pieces + 0) b) → Handled shape a b t t p q
+  waited b led pushes one ends stages on pipe pipes first from into ahead near =
       record {
         past = ys;
         led = led;
@@ -193,6 +195,8 @@ module _ (shape : Shape) (past : List Entry) (a : Node) (realm : SeenRealm) (t :
           from = from;
           into = into;
           ahead = λ none by to. let h = ahead none by to in omega arith;
+          near = λ head. near;
+          short = λ fed some. absurd (omega arith);
           stays = going-acts a b t t nothing_yet [] goes;
         };
       }
@@ -217,13 +221,14 @@ module _ (shape : Shape) (past : List Entry) (a : Node) (realm : SeenRealm) (t :
       told-nothing ends =
           waited was event.led pushed one-was ends refl (held-goes a was nothing_yet refl (rest-goes shape a was s.led.is_of.stages refl lies-quiet)) refl refl refl
           (comes-quietly a.entrance a.entrance t refl refl refl refl refl) (goes-quietly a.exit a.exit t p q gained refl refl refl refl) (λ none by to. omega arith)
+          (λ pieces is. near-same a was pieces (λ z. z) refl refl refl refl is)
 
       -- it waits above
       waits-up : (x y : AtEdge) → a.entrance.above ≡ Some x → y ≡ record x { waiting = y.waiting } → EndsHave shape ys (with_above y was) → Handled shape a (with_above y was) t t p q
       waits-up x y is same ends =
           waited (with_above y was) (led-at-above shape ys was x y is (ap (λ (z : AtEdge). z.from.received) same) event.led) pushed one-was ends refl
           (held-goes a (with_above y was) nothing_yet refl (rest-goes shape a (with_above y was) s.led.is_of.stages refl lies-quiet)) refl refl refl (up shape.origin s.led.is_of.from)
-          (goes-quietly a.exit a.exit t p q gained refl refl refl refl) (λ none by to. omega arith) where
+          (goes-quietly a.exit a.exit t p q gained refl refl refl refl) (λ none by to. omega arith) (λ pieces is_near. near-same a (with_above y was) pieces (λ z. z) refl refl refl refl is_near) where
             up : (o : Origin) → IsFedAs o a.entrance → ComesIn a.entrance (record a.entrance { above = Some y }) t t nothing_yet
             up FromBytes (off, none) = absurd (let f : None ≡ Some x = sym none ∙ is in cc)
             up FromPort (on, some) =
@@ -250,6 +255,7 @@ module _ (shape : Shape) (past : List Entry) (a : Node) (realm : SeenRealm) (t :
         waited b (led-stopped shape ys n NoMemory (λ f. absurd (cc)) (led-ahead shape ys was k few event.led)) (λ f. absurd (cc)) one ends refl
         (held-goes a b nothing_yet refl (rest-goes shape a b s.led.is_of.stages refl (λ j less. lost-short (lies_in a j)))) refl refl refl
         (comes-quietly a.entrance (record a.entrance { ahead = k }) t refl refl refl refl refl) (goes-quietly a.exit a.exit t p q gained refl refl refl refl) ahead
+        (λ pieces is. near-stopped a b NoMemory pieces refl refl refl is)
 
     -- it waits below
     module _ (x y : AtEdge) (is : a.exit.below ≡ Some x) (same : y ≡ record x { waiting = x.waiting ++ m ∷ [] }) (feeds : shape.target ≡ ToPort) (own : is_same_port (sink_port shape.origin) c ≡ true) where
@@ -293,8 +299,8 @@ module _ (shape : Shape) (past : List Entry) (a : Node) (realm : SeenRealm) (t :
                 ∙ (ap (λ z. then_told z (lying b)) (told_append x.waiting (m ∷ []))
                 ∙ (then_assoc (told_by x.waiting) (told_by (m ∷ [])) (lying b) ∙ ap (λ (o : Option AtEdge). then_told (told_by (waiting_at o)) (then_told (told_by (m ∷ [])) (lying b))) (sym is)))
 
-      waits-down : (k : ℕ) → k ≤ a.entrance.ahead → let b : Node = with_below y (record was { entrance = record a.entrance { ahead = k } }) in HasOne b → EndsHave shape ys b → Handled shape a b t t p q
-      waits-down k few one ends =
+      waits-down : (k : ℕ) → k ≤ a.entrance.ahead → min a.entrance.ahead 1 ≤ length (chunk_in m) + min k 1 → let b : Node = with_below y (record was { entrance = record a.entrance { ahead = k } }) in HasOne b → EndsHave shape ys b → Handled shape a b t t p q
+      waits-down k few enough one ends =
           waited b led pushed one ends refl (on k down) refl refl refl (comes-quietly a.entrance (record a.entrance { ahead = k }) t refl refl refl refl refl)
           (ToEdge outs (record {
             taken = [];
@@ -307,9 +313,13 @@ module _ (shape : Shape) (past : List Entry) (a : Node) (realm : SeenRealm) (t :
             alone = record { none = refl; calm = refl; finished = refl };
             abort = refl;
             sink = refl;
-          })) (λ none by to. absurd (let f : false ≡ true = sym to ∙ outs in cc)) where
+          })) (λ none by to. absurd (let f : false ≡ true = sym to ∙ outs in cc))
+          (λ pieces is_near. near-given a b m pieces goes more (ap (λ (z : AtEdge). z.from.received) same ∙ ap received_at (sym is)) refl enough is_near) where
             b : Node
             b = with_below y (record was { entrance = record a.entrance { ahead = k } })
+
+            more : given_at b.exit.below ≡ given_at a.exit.below ++ m ∷ []
+            more = ap (λ (z : AtEdge). given z) same ∙ (sym (append_assoc x.to.sent x.waiting (m ∷ [])) ∙ ap (λ (o : Option AtEdge). given_at o ++ m ∷ []) (sym is))
 
             outs : feeds_edge a.exit.output ≡ true
             outs = feeds-edge shape.target a.exit feeds s.led.is_of.into
@@ -375,7 +385,7 @@ module _ (shape : Shape) (past : List Entry) (a : Node) (realm : SeenRealm) (t :
       ends-full : (k : ℕ) → EndsHave shape ys (stopped_by NoMemory (record was { entrance = record a.entrance { ahead = k } }))
       ends-full k = record {
         above = stops-above;
-        below = subst (EndHas port ys (Some NoMemory)) (sym is) (end-full port past ys m x NoMemory event.told (same-sink shape.origin) (event.delivered port) had);
+        below = subst (EndHas port ys (Some NoMemory)) (sym is) (end-full port past ys m x event.told (same-sink shape.origin) (event.delivered port) had);
       }
 
       -- what is behind the first link, where a stage has it first, and without stages
@@ -396,8 +406,8 @@ module _ (shape : Shape) (past : List Entry) (a : Node) (realm : SeenRealm) (t :
       waits-by [] e =
           let d = had-is m a.entrance in
           subst (λ (z : Entrance). Handled shape a (with_below y (record was { entrance = z })) t t p q) (sym d.is)
-          (waits-down port m event x y is refl feeds (same-sink shape.origin) d.left d.few (one-none d.left e) (ends-down d.left))
-      waits-by (w ∷ ws) e = waits-down port m event x y is refl feeds (same-sink shape.origin) a.entrance.ahead (omega arith) (one-stages w ws e) (ends-down a.entrance.ahead)
+          (waits-down port m event x y is refl feeds (same-sink shape.origin) d.left d.few d.enough (one-none d.left e) (ends-down d.left))
+      waits-by (w ∷ ws) e = waits-down port m event x y is refl feeds (same-sink shape.origin) a.entrance.ahead (omega arith) (omega arith) (one-stages w ws e) (ends-down a.entrance.ahead)
 
       full-by : (ws : List State) → a.core.stages.items ≡ ws → Handled shape a (stopped_by NoMemory (had_as ws m was)) t t p q
       full-by [] e =
@@ -449,7 +459,7 @@ module _ (shape : Shape) (past : List Entry) (a : Node) (realm : SeenRealm) (t :
         (stops source_port m event a.entrance.ahead (omega arith) (λ none by to. omega arith) (one-was source_port m event (unheard source_port m apart))
         (record {
           above = subst (EndHas source_port ys (Some NoMemory)) (sym is)
-              (end-full source_port past ys m x NoMemory event.told refl (event.delivered source_port) (subst (EndHas source_port past None) is (going-ends source_port a.entrance.above s.ends.above)));
+              (end-full source_port past ys m x event.told refl (event.delivered source_port) (subst (EndHas source_port past None) is (going-ends source_port a.entrance.above s.ends.above)));
           below = end-stopped (sink_port shape.origin) ys NoMemory a.exit.below (subst (λ z. EndHas (sink_port shape.origin) ys z a.exit.below) goes below-stays);
         }))
     waits-above b (NoEdge none same) =

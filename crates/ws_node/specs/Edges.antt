@@ -1,13 +1,11 @@
 -- What the methods of a node do at the ends of its edges, each told as it is.
-use Rattle.std.specs.Prelude.{◌≡◌, ◌≢◌, ◌+◌, ◌-◌, ◌<◌, ℕ, Bool, true, false, not, ◌||◌, ◌&&◌, List, [], ◌∷◌, ◌++◌, length, is_some, if◌then◌else◌, Option, Some, None}
+use Rattle.std.specs.Prelude.{◌≡◌, ◌≢◌, ◌+◌, ◌-◌, ◌<◌, Bool, true, false, ◌||◌, List, [], ◌∷◌, ◌++◌, length, Option, Some, None}
 use Rattle.ws_value.specs.declared.fault.Fault.TheVariants.{NoMemory as NoMemoryFault}
 use Rattle.ws_value.specs.declared.ids.PortId.{PortId}
 use Rattle.ws_value.specs.declared.value.Message.{Message}
-use Rattle.ws_value.specs.declared.value.Message.TheVariants.{Pull, Chunk, Close, Error}
-use Rattle.ws_value.specs.declared.value.Plain.{Plain}
+use Rattle.ws_value.specs.declared.value.Message.TheVariants.{Chunk, Error}
 use Rattle.ws_value.specs.declared.value.Plain.TheVariants.{Fault as FaultReason}
-use Rattle.ws_value.specs.declared.value.Value.{Value}
-use Rattle.ws_value.specs.declared.value.Value.TheVariants.{Plain as PlainValue, Bytes}
+use Rattle.ws_value.specs.declared.value.Value.TheVariants.{Bytes}
 use Rattle.ws_edge.specs.Edge.{AtEdge, PostsFirst, FindsFull, FindsNone, given, last_error}
 use Rattle.ws_stages.specs.State.{State}
 use Rattle.ws_steps.specs.declared.calls.Call.TheVariants.{Deliver}
@@ -15,7 +13,6 @@ use Rattle.ws_steps.specs.PortHistory.{is_same_port}
 use Rattle.ws_steps.specs.Queues.{is_empty}
 use Rattle.ws_steps.specs.Slots.{is_live}
 use Rattle.ws_chain_laws.specs.Chain.{source_port}
-use Rattle.ws_realm.specs.declared.realm.Why.{Why}
 use Rattle.ws_realm.specs.declared.realm.Why.TheVariants.{NoMemory}
 use Rattle.ws_node.specs.declared.node.Entrance.{Entrance}
 use Rattle.ws_node.specs.declared.node.Input.{Input}
@@ -23,7 +20,7 @@ use Rattle.ws_node.specs.declared.node.Input.TheVariants as input
 use Rattle.ws_node.specs.declared.node.Node.{Node}
 use Rattle.ws_node.specs.Messages.{as_fair}
 use Rattle.ws_node.specs.Moves.{Asks, stopped_by}
-use Rattle.ws_node.specs.Node.{port_below, sent_at}
+use Rattle.ws_node.specs.Node.{port_below}
 
 -- Posting
 
@@ -33,6 +30,7 @@ pub record PostsEnd (posted : Bool) (a b : AtEdge) : Type 0 where
   pub given_is : given b ≡ given a
   pub row : b.to.row ≡ a.to.row
   pub from : b.from ≡ a.from
+  pub traced : b.traced ≡ a.traced
   pub some : posted ≡ true → length a.to.sent < length b.to.sent
   pub none : posted ≡ false → b.to.sent ≡ a.to.sent
   pub full : is_empty b.waiting ≡ false → FindsFull a.to b.to
@@ -69,6 +67,7 @@ pub record TellsBoth (a b : Node) : Type 0 where
 pub record TakesEnd (m : Message) (a b : AtEdge) : Type 0 where
   pub to : b.to ≡ a.to
   pub waiting : b.waiting ≡ a.waiting
+  pub traced : b.traced ≡ a.traced
   pub row : b.from.row ≡ a.from.row
   pub received : b.from.received ≡ a.from.received ++ m ∷ []
 
@@ -76,6 +75,7 @@ pub record TakesEnd (m : Message) (a b : AtEdge) : Type 0 where
 pub record TakesNone (a b : AtEdge) : Type 0 where
   pub to : b.to ≡ a.to
   pub waiting : b.waiting ≡ a.waiting
+  pub traced : b.traced ≡ a.traced
   pub row : b.from.row ≡ a.from.row
   pub received : b.from.received ≡ a.from.received
   pub looked : FindsNone a.from b.from
@@ -105,6 +105,18 @@ with_below e n = record n { exit = record n.exit { below = Some e } }
 abbrev pub Brings : Message → Node → Node → Type 0
 Brings m a b = Asks (Deliver source_port m) (record a { entrance = record a.entrance { input = broken_by m a.entrance.input } }) b
 
+-- that an error came up is remembered
+
+abbrev pub broken_after : Message → Bool → Bool
+broken_after (Error r) broken = true
+broken_after m broken = broken
+
+abbrev pub breaks_by : Message → Node → Node
+breaks_by m n = record n { exit = record n.exit { broken = broken_after m n.exit.broken } }
+
+abbrev pub BringsUp : PortId → Message → Node → Node → Type 0
+BringsUp port m a b = Asks (Deliver port m) (breaks_by m a) b
+
 pub data TakesAbove (took : Bool) (a b : Node) : Type 0 where
   NotAbove : took ≡ false → NoneHeld source_port a a.entrance.above → b ≡ a → TakesAbove took a b
   NoMore : took ≡ false → takes_more a.entrance.input ≡ false → b ≡ a → TakesAbove took a b
@@ -116,7 +128,7 @@ pub data TakesBelow (took : Bool) (a b : Node) : Type 0 where
   NotBelow : took ≡ false → NoneHeld (port_below a.entrance) a a.exit.below → b ≡ a → TakesBelow took a b
   NoneBelow : took ≡ false → a.core.stopped ≡ None → (e f : AtEdge) → a.exit.below ≡ Some e → TakesNone e f → b ≡ with_below f a → TakesBelow took a b
   TookBelow : took ≡ true → a.core.stopped ≡ None → (m : Message) (e f : AtEdge) → a.exit.below ≡ Some e → TakesEnd m e f
-      → Asks (Deliver (port_below a.entrance) (as_fair m)) (with_below f a) b → TakesBelow took a b
+      → BringsUp (port_below a.entrance) (as_fair m) (with_below f a) b → TakesBelow took a b
 
 -- What a port posted waits at its end, which is put into this node, or there was no memory for that, or no end is there
 

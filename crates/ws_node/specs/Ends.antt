@@ -24,8 +24,8 @@ use Rattle.ws_node.specs.declared.node.Output.{Output}
 use Rattle.ws_node.specs.declared.node.Output.TheVariants as output
 use Rattle.ws_joined_laws.specs.Reasons.{reasons_in}
 use Rattle.ws_node.specs.Messages.{fairly}
-use Rattle.ws_node.specs.Node.{outcome_of_pipe, has_settled, is_reached, received_at}
-use Rattle.ws_node.specs.Past.{HasCounts, IsCause, IsOwnStage}
+use Rattle.ws_node.specs.Node.{feeds_edge, is_edge, outcome_of_pipe, has_settled, is_reached, received_at}
+use Rattle.ws_node.specs.Past.{Driven, HasCounts, IsCause, IsOwnStage}
 
 -- how much of the input was read: all, to its end and without a fault; or some of it. An input is lost where it fails, and never breaks off
 pub record IsReadToEnd (old new : Moment) : Type 0 where
@@ -119,7 +119,7 @@ pub record Ends (status : Status) (plan : Plan) (old new : Moment) (got got' : L
   pub allowed : Allows status plan mark old new taken gain
   pub finish_kept : Leaves status old new
 
--- the reasons with which the pipe of a node may be rejected, and the status of each
+-- the reasons with which the pipe of a node may be rejected, but for want of memory, and the status of each
 
 abbrev pub IsNamed : Plain → Type 0
 IsNamed (FaultReason Read) = Unit {0}
@@ -136,6 +136,11 @@ status_of (FaultReason TooMuchFault) = TooMuch
 status_of (FaultReason (StageFault index code place)) = Stage index code place
 status_of (FaultReason AbortFault) = Aborted
 status_of _ = NoMemory
+
+-- a node that reads the input and writes the output has no other
+abbrev pub EachWholeNamesItsReason : Type 0
+EachWholeNamesItsReason =
+    (n : Node) (r : Plain) → Driven n → is_edge n.entrance.input ≡ false → feeds_edge n.exit.output ≡ false → outcome_of_pipe n.core ≡ Some (Rejected r) → IsNamed r
 
 abbrev pub unless_finished : Output → Status → Status
 unless_finished output.Open status = status

@@ -7,6 +7,7 @@ pub mod Hears
 pub mod Host
 pub mod Messages
 pub mod Moves
+pub mod Near
 pub mod Node
 pub mod Nodes
 pub mod Opening

@@ -1,5 +1,5 @@
 -- The messages that a node takes as they stand, and what stands in the place of another one.
-use Rattle.std.specs.Prelude.{nat_lt, Bool, true, false, not, ◌&&◌, if◌then◌else◌, List, length, map}
+use Rattle.std.specs.Prelude.{nat_lt, Bool, true, false, if◌then◌else◌, List, length, map}
 use Rattle.ws_value.specs.declared.fault.Fault.TheVariants.{TypeError}
 use Rattle.ws_value.specs.declared.value.Message.{Message}
 use Rattle.ws_value.specs.declared.value.Message.TheVariants.{Pull, Chunk, Close, Error}

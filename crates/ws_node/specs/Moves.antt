@@ -308,10 +308,11 @@ Answers id (HostTransform i v) a b old new got got' = transforms_by id i v a b �
 Answers id (HostFlush i) a b old new got got' = Flushes id i a b × Untouched old new got got'
 Answers id _ a b old new got got' = Settles id a b old new got got'
 
--- why the input isn't read: the realm has stopped, or what was read before wasn't had, or the input isn't open, or no pull waits
+-- why the input isn't read: the realm has stopped, or what was read before wasn't had, or an error came up, or the input isn't open, or no pull waits
 pub data NeedsNoRead (a : Node) : Type 0 where
   IsStopped : (why : Why) → a.core.stopped ≡ Some why → NeedsNoRead a
   IsAhead : 0 < a.entrance.ahead → NeedsNoRead a
+  IsBroken : a.exit.broken ≡ true → NeedsNoRead a
   IsShut : a.entrance.input ≢ InputOpen → NeedsNoRead a
   IsUnasked : a.entrance.asked ≡ None → NeedsNoRead a
 
@@ -325,7 +326,7 @@ pub data Reads (a b : Node) (old new : Option Feed) (before now : ℕ) : Type 0 
   ReadNot : NeedsNoRead a → b ≡ a → Unread old new before now → Reads a b old new before now
   Wanted : a.core.stopped ≡ None → Unread old new before now → (id : HostId) → a.entrance.asked ≡ Some id
       → b ≡ record a { core = record a.core { stopped = Some NoMemory }; entrance = record a.entrance { asked = None } } → Reads a b old new before now
-  ReadOnce : a.core.stopped ≡ None → a.entrance.ahead ≡ 0 → a.entrance.input ≡ InputOpen → (id : HostId) → a.entrance.asked ≡ Some id
+  ReadOnce : a.core.stopped ≡ None → a.entrance.ahead ≡ 0 → a.exit.broken ≡ false → a.entrance.input ≡ InputOpen → (id : HostId) → a.entrance.asked ≡ Some id
       → (want : ℕ) → want ≤ 4096 → want ≤ (a.entrance.most - a.entrance.taken) + 1 → (piece : Result (List ℕ) Failed) → GivesPiece old new before now want piece
       → (c : Node) → Takes piece (record a { entrance = record a.entrance { asked = None } }) c → Asks (settles id) c b → Reads a b old new before now
 

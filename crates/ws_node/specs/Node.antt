@@ -131,10 +131,10 @@ waiting_at (Some e) = e.waiting
 abbrev pub given_at : Option AtEdge → List Message
 given_at o = sent_at o ++ waiting_at o
 
--- which rows it is of
-abbrev pub rows_at : Option AtEdge → Option (TableId × TableId)
+-- which rows it is of, and whether it keeps the marks of what was posted
+abbrev pub rows_at : Option AtEdge → Option (TableId × TableId × Bool)
 rows_at None = None
-rows_at (Some e) = Some (e.from.row, e.to.row)
+rows_at (Some e) = Some (e.from.row, e.to.row, e.traced)
 
 -- the port of the edge below is the next one behind that of the edge above
 abbrev pub port_below : Entrance → PortId

@@ -1,5 +1,6 @@
 -- What holds of a node between turns, by its shape and all that led to it: its links are wired, and its host knows what became of what they brought.
 use Rattle.std.specs.Prelude.{◌≡◌, ◌≢◌, ◌+◌, ◌<◌, ◌≤◌, ◌^◌, ℕ, ℤ, Bool, true, false, not, ◌&&◌, is_some, if◌then◌else◌, List, [], ◌∷◌, ◌++◌, length, All, Contains, Option, Some, None, slice_get, option_map}
+use Rattle.std.specs.List.{concat}
 use Rattle.ws_value.specs.declared.fault.Fault.{Fault}
 use Rattle.ws_value.specs.declared.fault.Fault.TheVariants.{TypeError, RangeError, DataClone, User, Read, Write, Stage, TooMuch, Abort, NoMemory}
 use Rattle.ws_value.specs.declared.ids.HostId.{HostId}
@@ -32,7 +33,7 @@ use Rattle.ws_joined_laws.specs.Reasons.{reasons_in}
 use Rattle.ws_node_laws.specs.Messages.{delivered_to, taken_events}
 use Rattle.ws_realm.specs.Seen.{oldest}
 use Rattle.ws_realm.specs.declared.realm.Why.{Why}
-use Rattle.ws_realm.specs.declared.realm.Why.TheVariants.{Spent}
+use Rattle.ws_realm.specs.declared.realm.Why.TheVariants as why
 use Rattle.ws_reason_laws.specs.Reasons.{failures}
 use Rattle.ws_node.specs.declared.node.Abort.{Abort as AbortOf}
 use Rattle.ws_node.specs.declared.node.Entrance.{Entrance}
@@ -45,6 +46,7 @@ use Rattle.ws_node.specs.declared.node.Output.TheVariants as output
 use Rattle.ws_node.specs.Fair.{AllBringFair}
 use Rattle.ws_node.specs.Moves.{IsAt, is_writable}
 use Rattle.ws_node.specs.Messages.{fairly}
+use Rattle.ws_node.specs.Near.{IsHead, IsNear}
 use Rattle.ws_node.specs.Node.{stages_in, nothing_yet, parts, held, is_reached, is_edge, feeds_edge, received_at, sent_at}
 use Rattle.ws_node.specs.Opening.{AreAnsweredOf, opening_by, all_begun, abort_of}
 use Rattle.ws_node.specs.Ran.{HasRun}
@@ -189,7 +191,7 @@ pub record Led (shape : Shape) (past : List Entry) (n : Node) : Type 0 where
   pub age : n.core.realm.slots.age ≤ oldest
   pub counts : HasCounts n.entrance
   -- the realm has stopped as one that is spent only where it is
-  pub spent : n.core.stopped ≡ Some Spent → n.core.realm.slots.age ≡ oldest
+  pub spent : n.core.stopped ≡ Some why.Spent → n.core.realm.slots.age ≡ oldest
 
 -- whether what is read may still come to be had: while the first stage may be asked, or without stages the output may be written or there is an edge
 abbrev pub may_have : List State → Output → Option AbortOf → Bool
@@ -224,14 +226,18 @@ pub record IsFed (stages : List PlanStage) (n : Node) : Type 0 where
   pub short : All (λ c. length c ≤ most_of_piece n.entrance.input) came.items
   -- while the output may be written, more may go out
   pub goes_on : n.exit.output ≡ output.Open → went.mark ≡ MayCome
+  -- while the input may be read, more may come in, and what was read is counted
+  pub reads_on : n.entrance.input ≡ input.Open → came.mark ≡ MayCome
+  pub counted : is_edge n.entrance.input ≡ false → n.entrance.taken ≡ length (concat came.items)
+  pub near : IsHead n → IsNear (length came.items) n
   pub flows : Flows (machines stages) came (parts n) (then_told went (held n))
 
 -- what an end was given to post is what its port posted, of which the node has heard; where no memory was to be had, a first part of that, and at
 -- most one error behind it
 pub data IsGiven (posted given : List Message) (stopped : Option Why) : Type 0 where
   Whole : given ≡ posted → IsGiven posted given stopped
-  FirstPart : stopped ≢ None → (rest : List Message) → posted ≡ given ++ rest → IsGiven posted given stopped
-  WithLast : stopped ≢ None → (first rest : List Message) → posted ≡ first ++ rest → has_end first ≡ false → given ≡ first ++ Error (FaultReason NoMemory) ∷ []
+  FirstPart : stopped ≡ Some why.NoMemory → (rest : List Message) → posted ≡ given ++ rest → IsGiven posted given stopped
+  WithLast : stopped ≡ Some why.NoMemory → (first rest : List Message) → posted ≡ first ++ rest → has_end first ≡ false → given ≡ first ++ Error (FaultReason NoMemory) ∷ []
       → IsGiven posted given stopped
 
 -- what was taken of an end was delivered to its port, but for the last message where the realm has stopped

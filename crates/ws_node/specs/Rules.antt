@@ -1,5 +1,6 @@
 -- What a node owes its edges, by the lists of its ends: what it gives them to post is legal, keeps their credit, and has no error without a cause.
-use Rattle.std.specs.Prelude.{◌≡◌, ◌≢◌, ◌+◌, ◌<◌, ◌≤◌, ℕ, true, List, All, length, None}
+use Rattle.std.specs.List.{concat}
+use Rattle.std.specs.Prelude.{◌≡◌, ◌+◌, ◌<◌, ◌≤◌, ℕ, true, List, All, length, Some, ◌*◌}
 use Rattle.ws_value.specs.declared.fault.Fault.TheVariants.{NoMemory}
 use Rattle.ws_value.specs.declared.value.Message.{Message}
 use Rattle.ws_value.specs.declared.value.Plain.{Plain}
@@ -10,9 +11,11 @@ use Rattle.ws_flow.specs.Told.{IsFront}
 use Rattle.ws_node_laws.specs.Edges.{Edge, goes_down_edge, IsLegal as IsLegalEdge, IsCredited, HasFew}
 use Rattle.ws_node_laws.specs.Messages.{chunks_of}
 use Rattle.ws_joined_laws.specs.Reasons.{reasons_in}
+use Rattle.ws_realm.specs.declared.realm.Why.TheVariants as why
 use Rattle.ws_node.specs.declared.node.Node.{Node}
 use Rattle.ws_node.specs.Messages.{fairly, is_fair_reason}
 use Rattle.ws_node.specs.Node.{feeds_edge, given_at, received_at, sent_at}
+use Rattle.ws_node.specs.Near.{IsHead}
 use Rattle.ws_node.specs.Past.{Driven, IsCause}
 
 -- Nothing stands behind a close or an error, and each message is of its kind: down go chunks of bytes, a close and errors, up go pulls and errors
@@ -55,7 +58,7 @@ EachNodeKeepsCredit = (n : Node) → Driven n → KeepsCredit n
 -- why a node sends an error down: for a reason that came to it or has its cause in it, or since no memory was to be had
 pub data IsSentFor (n : Node) (r : Plain) : Type 0 where
   Caused : IsCause n r → IsSentFor n r
-  Wanting : r ≡ FaultReason NoMemory → n.core.stopped ≢ None → IsSentFor n r
+  Wanting : r ≡ FaultReason NoMemory → n.core.stopped ≡ Some why.NoMemory → IsSentFor n r
 
 -- the errors that it gave down have such reasons, and each may be sent on
 pub record HasCauses (n : Node) : Type 0 where
@@ -74,6 +77,17 @@ pub record SendsDown (n : Node) : Type 0 where
 
 abbrev pub EachNodeSendsDown : Type 0
 EachNodeSendsDown = (n : Node) → Driven n → feeds_edge n.exit.output ≡ true → SendsDown n
+
+-- How far a node reads ahead that reads the input and sends it on, without stages: what it posted is part of what it read, which is longer by at most 4,096
+-- bytes for each pull that came up, and one more, less the chunks that it posted
+
+pub record ReadsNear (n : Node) : Type 0 where
+  pub part : length (concat (pieces_in (sent_at n.exit.below))) ≤ n.entrance.taken
+  pub near : n.entrance.taken + 4096 * length (pieces_in (sent_at n.exit.below))
+      ≤ length (concat (pieces_in (sent_at n.exit.below))) + 4096 * (pulls_in (received_at n.exit.below) + 1)
+
+abbrev pub EachHeadReadsLittleAhead : Type 0
+EachHeadReadsLittleAhead = (n : Node) → Driven n → IsHead n → ReadsNear n
 
 -- The edge between two nodes: what each received is a first part of what the other sent
 abbrev pub edge_between : Node → Node → Edge
@@ -94,3 +108,9 @@ pub record KeepsRules (e : Edge) : Type 0 where
 
 abbrev pub EachEdgeKeepsRules : Type 0
 EachEdgeKeepsRules = (upper lower : Node) → Driven upper → Driven lower → HasMet (edge_between upper lower) → KeepsRules (edge_between upper lower)
+
+-- so the upper one, where it reads the input, is at most two pieces ahead of what it posted
+abbrev pub EachJoinedHeadReadsLittleAhead : Type 0
+EachJoinedHeadReadsLittleAhead =
+    (upper lower : Node) → Driven upper → Driven lower → IsHead upper → HasMet (edge_between upper lower)
+    → upper.entrance.taken ≤ length (concat (pieces_in (sent_at upper.exit.below))) + 8192

@@ -1,24 +1,24 @@
 -- What a turn of a node does first, and what it answers.
-use Rattle.std.specs.Prelude.{◌≡◌, ◌<◌, ◌&&◌, Bool, true, false, List, ◌∷◌, length, Option, Some, None}
+use Rattle.std.specs.Prelude.{◌≡◌, ◌<◌, ◌&&◌, Bool, true, false, List, ◌∷◌, ◌++◌, length, Option, Some, None}
+use Rattle.ws_value.specs.declared.value.Message.{Message}
+use Rattle.ws_steps.specs.PortHistory.{posted_in}
 use Rattle.ws_steps.specs.Queues.{is_empty}
 use Rattle.ws_steps.specs.Run.{Entry, Worked as JobWorked, Heard, run, is_idle}
 use Rattle.ws_steps.specs.Slots.{is_live}
 use Rattle.ws_realm.specs.Seen.{oldest}
+use Rattle.ws_realm.specs.declared.realm.Why.{Why}
 use Rattle.ws_realm.specs.declared.realm.Why.TheVariants as why
+use Rattle.ws_node_laws.specs.Messages.{taken_events}
 use Rattle.ws_node.specs.declared.node.Node.{Node}
 use Rattle.ws_node.specs.declared.turn.Turn.{Turn}
 use Rattle.ws_node.specs.declared.turn.Turn.TheVariants.{Worked, Idle, Ended, NoMemory, Spent}
 use Rattle.ws_chain_laws.specs.Chain.{source_port}
-use Rattle.ws_edge.specs.Edge.{AtEdge, FindsFull, FindsNone}
+use Rattle.ws_edge.specs.Edge.{AtEdge, FindsFull, FindsNone, given}
 use Rattle.ws_node.specs.Edges.{takes_more}
-use Rattle.ws_node.specs.Node.{is_busy, is_over, port_below, received_at, sent_at}
+use Rattle.ws_node.specs.Node.{feeds_edge, is_busy, is_edge, is_over, port_below, received_at, sent_at}
+use Rattle.ws_node.specs.Past.{IsGiven}
 
--- some run leads from the realm of a to that of b
-pub record Follows (a b : Node) : Type 0 where
-  pub entries : List Entry
-  pub slots : b.core.realm.slots ≡ run entries a.core.realm.slots
-
--- one that begins so
+-- a run from the realm of a to that of b that begins so
 pub record GoesBy (x : Entry) (a b : Node) : Type 0 where
   pub rest : List Entry
   pub slots : b.core.realm.slots ≡ run (x ∷ rest) a.core.realm.slots
@@ -44,10 +44,50 @@ pub record NoneHeard (a : Node) : Type 0 where
   pub going : a.core.stopped ≡ None
   pub none : is_empty a.core.realm.slots.promises.events ≡ true
 
+-- a node without edges
+pub record IsAlone (n : Node) : Type 0 where
+  pub input : is_edge n.entrance.input ≡ false
+  pub output : feeds_edge n.exit.output ≡ false
+  pub above : n.entrance.above ≡ None
+  pub below : n.exit.below ≡ None
+
 -- both ends are as they were
 pub record SameEnds (a b : Node) : Type 0 where
   pub above : b.entrance.above ≡ a.entrance.above
   pub below : b.exit.below ≡ a.exit.below
+
+-- An end was given to post what it was given before, and then the messages of which the host heard meanwhile; where no memory was to be had, a first part of
+-- these, and at most one error behind it
+abbrev pub EndGrowsBy : List Message → Option Why → Option AtEdge → Option AtEdge → Type 0
+EndGrowsBy heard stopped None b = b ≡ None
+EndGrowsBy heard stopped (Some a) None = ⊥
+EndGrowsBy heard stopped (Some a) (Some b) = IsGiven (given a ++ heard) (given b) stopped
+
+-- some run leads from the realm of a to that of b, and its ends are given what the host heard of in it that their ports posted
+pub record GivesHeard (a b : Node) : Type 0 where
+  pub entries : List Entry
+  pub slots : b.core.realm.slots ≡ run entries a.core.realm.slots
+  pub above : EndGrowsBy (posted_in source_port (taken_events entries a.core.realm.slots)) b.core.stopped a.entrance.above b.entrance.above
+  pub below : EndGrowsBy (posted_in (port_below a.entrance) (taken_events entries a.core.realm.slots)) b.core.stopped a.exit.below b.exit.below
+
+-- What was posted at an end, and then what waits there, is what waited before, and then the messages of which the host heard meanwhile; where no memory was to
+-- be had, a first part of these, and at most one error behind it
+pub record EndPosts (heard : List Message) (stopped : Option Why) (a b : AtEdge) : Type 0 where
+  pub posted : List Message
+  pub sent : b.to.sent ≡ a.to.sent ++ posted
+  pub given : IsGiven (a.waiting ++ heard) (posted ++ b.waiting) stopped
+
+abbrev pub EndPostsAt : List Message → Option Why → Option AtEdge → Option AtEdge → Type 0
+EndPostsAt heard stopped None b = b ≡ None
+EndPostsAt heard stopped (Some a) None = ⊥
+EndPostsAt heard stopped (Some a) (Some b) = EndPosts heard stopped a b
+
+-- some run leads from the realm of a to that of b, and at the ends is posted and waits what the host heard of in it that their ports posted
+pub record PostsHeard (a b : Node) : Type 0 where
+  pub entries : List Entry
+  pub slots : b.core.realm.slots ≡ run entries a.core.realm.slots
+  pub above : EndPostsAt (posted_in source_port (taken_events entries a.core.realm.slots)) b.core.stopped a.entrance.above b.entrance.above
+  pub below : EndPostsAt (posted_in (port_below a.entrance) (taken_events entries a.core.realm.slots)) b.core.stopped a.exit.below b.exit.below
 
 -- a message was taken or posted at an end
 pub data HasSent (a b : Option AtEdge) : Type 0 where

@@ -23,6 +23,7 @@ use Rattle.ws_node.specs.declared.node.Node.{Node}
 use Rattle.ws_node.specs.declared.node.Output.{Output}
 use Rattle.ws_node.specs.declared.node.Output.TheVariants as output
 use Rattle.ws_node.specs.Messages.{fairly}
+use Rattle.ws_node.specs.Near.{IsHead, IsNear}
 use Rattle.ws_node.specs.Node.{held, nothing_yet, parts, stages_in, is_edge, feeds_edge, received_at, sent_at, rows_at}
 
 -- no read failed
@@ -70,6 +71,16 @@ pub record ComesNear (left left' : ℕ) (chunks : List (List ℕ)) (gain : List 
   pub exact : o ≢ output.Failed → 0 < left' → length gain + left' ≡ left
   pub last : 0 < length gain → StopsIn left chunks gain
 
+-- of the chunks that went out, one holds the last byte that the output got, and it is short
+pub record EndsShort (chunks : List (List ℕ)) (gain : List ℕ) : Type 0 where
+  pub before : List (List ℕ)
+  pub chunk : List ℕ
+  pub after : List (List ℕ)
+  pub split : chunks ≡ before ++ (chunk ∷ after)
+  pub from : length (concat before) < length gain
+  pub to : length gain ≤ length (concat before) + length chunk
+  pub short : length chunk < 2 ^ 25
+
 abbrev pub AbortGoes : Option Abort → Option Abort → List (List ℕ) → List ℕ → Output → Type 0
 AbortGoes None None chunks gain o = Unit {0}
 AbortGoes (Some x) (Some y) chunks gain o = (y.signal ≡ x.signal) × ComesNear x.left y.left chunks gain o
@@ -111,13 +122,13 @@ pub record EndGrows (a b : Option AtEdge) (taken posted : List Message) : Type 0
   pub sent : sent_at b ≡ sent_at a ++ posted
 
 -- by the reasons of the errors among what was taken
-abbrev pub broken_by : List Plain → Input
-broken_by [] = input.Edge
-broken_by (r ∷ rs) = input.Broken r
+abbrev pub edge_after : List Plain → Input
+edge_after [] = input.Edge
+edge_after (r ∷ rs) = input.Broken r
 
 -- a node that is fed by an edge stays so: it is told the reason of the first error that comes over it
 abbrev pub EdgeGoes : Input → Input → List Message → Type 0
-EdgeGoes input.Edge b taken = b ≡ broken_by (reasons_in taken)
+EdgeGoes input.Edge b taken = b ≡ edge_after (reasons_in taken)
 EdgeGoes (input.Broken reason) b taken = b ≡ input.Broken reason
 EdgeGoes _ b taken = ⊥
 
@@ -178,5 +189,9 @@ pub record Went (a b : Node) (old new : Moment) (got got' : List ℕ → Type 0)
   -- without stages what the output hasn't had is at least what was read and not gained
   pub ahead : a.core.stages.items ≡ [] → is_edge a.entrance.input ≡ false → feeds_edge a.exit.output ≡ false
       → a.entrance.ahead + length (concat read.items) ≤ length gain + b.entrance.ahead
+  -- however many pieces a node read before that only reads the input and sends it on
+  pub near : IsHead a → (pieces : ℕ) → IsNear pieces a → IsNear (pieces + length read.items) b
+  -- of a node that the input feeds, the chunk with the last byte that its output got is short
+  pub short : is_edge a.entrance.input ≡ false → 0 < length gain → EndsShort went.items gain
   -- one that had stopped does nothing more
   pub stays : (why : Why) → a.core.stopped ≡ Some why → DoesNothing a b old new read gain

@@ -3,11 +3,11 @@
 ghost use Rattle.std.specs.Prelude.{◌≡◌, if◌then◌else◌};
 ghost use Rattle.ws_steps.specs.Queues.{is_empty};
 ghost use Rattle.ws_value.specs.declared.value.Message.TheVariants.{Error};
-ghost use Rattle.ws_node.specs.Edges.{Brings, PostsBoth, TakesAbove, TakesBelow, TellsBoth, Waits, WaitsAbove, WaitsBelow, broken_by, had_entrance, posts_at, takes_more, tells_at};
+ghost use Rattle.ws_node.specs.Edges.{Brings, BringsUp, PostsBoth, TakesAbove, TakesBelow, TellsBoth, Waits, WaitsAbove, WaitsBelow, broken_after, broken_by, had_entrance, posts_at, takes_more, tells_at};
 ghost use Rattle.ws_node.specs.Messages.{as_fair, is_fair, is_fair_reason};
 ghost use Rattle.ws_node.specs.Node.{is_over, port_below, waiting_at};
 
-use crate::node::{Entrance, Input, Node};
+use crate::node::{Entrance, Exit, Input, Node};
 use ws_edge::End;
 use ws_realm::{Fault, Message, NoMemory, Plain, PortId, Value, Why};
 
@@ -136,6 +136,20 @@ impl Input {
     }
 }
 
+impl Exit {
+    /// Whether an error came up, after a message of the edge below.
+    fn broken_by(&self, message: &Message) -> bool
+        ensures { result ≡ broken_after message.now self.now.broken }
+    {
+        match message {
+            Message::Error(_) => true,
+            Message::Pull => self.broken,
+            Message::Chunk(_) => self.broken,
+            Message::Close => self.broken,
+        }
+    }
+}
+
 /// Whether nothing waits at an end.
 fn all_posted(end: &Option<End>) -> bool
     ensures { result ≡ is_empty (waiting_at end.now) }
@@ -209,8 +223,16 @@ impl Node {
         let Some(message) = end.take() else {
             return false;
         };
-        self.deliver(port, as_fair(message));
+        self.bring_up(port, as_fair(message));
         true
+    }
+
+    /// Hands a message to the port of the edge below. Behind an error nothing more is read.
+    fn bring_up(&mut self, port: PortId, message: Message)
+        ensures { BringsUp port message self.old self.new }
+    {
+        self.exit.broken = self.exit.broken_by(&message);
+        self.deliver(port, message)
     }
 
     /// What a port of the realm posts waits at its end. Where there is no memory for that, the realm stops.

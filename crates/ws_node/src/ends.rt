@@ -4,8 +4,8 @@ ghost use Rattle.std.specs.Prelude.{◌≡◌, Some, is_some, true};
 use crate::node::{Entrance, Exit};
 use ws_edge::End;
 
-/// That of the edge above it.
-pub fn upper_end(entrance: Entrance) -> End
+/// The lower end of the edge above it.
+pub fn lower_end(entrance: Entrance) -> End
     requires { is_some entrance.above ≡ true }
     ensures { entrance.above ≡ Some result }
 {
@@ -15,8 +15,8 @@ pub fn upper_end(entrance: Entrance) -> End
     }
 }
 
-/// That of the edge below it.
-pub fn lower_end(exit: Exit) -> End
+/// The upper end of the edge below it.
+pub fn upper_end(exit: Exit) -> End
     requires { is_some exit.below ≡ true }
     ensures { exit.below ≡ Some result }
 {

@@ -4,10 +4,11 @@ ghost use Rattle.ws_io.specs.Moment.{moment};
 ghost use Rattle.ws_node.specs.Nodes.{HeadGoes};
 ghost use Rattle.ws_node.specs.Opening.{IsAccepted};
 ghost use Rattle.ws_node.specs.Past.{Driven, IsNew, IsUnused};
+ghost use Rattle.ws_node.specs.Rules.{ReadsNear};
 ghost use Rattle.ws_node.specs.Shares.{head_of};
-ghost use Rattle.ws_node.specs.Turns.{TurnIs};
+ghost use Rattle.ws_node.specs.Turns.{PostsHeard, TurnIs};
 
-use crate::ends::lower_end;
+use crate::ends::upper_end;
 use crate::making::Share;
 use crate::node::Node;
 use crate::turn::Turn;
@@ -25,17 +26,15 @@ pub struct Head {
 }
 
 impl Model for Head {
-    ghost use Rattle.std.specs.Prelude.{◌≡◌, true, false};
     ghost use Rattle.ws_node.specs.declared.node.Node.{Node};
-    ghost use Rattle.ws_node.specs.Node.{feeds_edge, is_edge};
+    ghost use Rattle.ws_node.specs.Near.{IsHead};
     ghost use Rattle.ws_node.specs.Past.{Driven};
 
     ghost Value = { Node };
 
     ghost view = { λ h. h.node };
 
-    ghost invariant = { λ h. Driven h.node × (is_edge h.node.entrance.input ≡ false)
-        × (feeds_edge h.node.exit.output ≡ true) };
+    ghost invariant = { λ h. Driven h.node × IsHead h.node };
 }
 
 impl Head {
@@ -56,6 +55,8 @@ impl Head {
         ensures went { HeadGoes (moment (S.faults input.old) (S.feed input.old) 0 None)
             (moment (S.faults input.new) (S.feed input.new) 0 None) self.old self.new }
         ensures turn { TurnIs result self.old self.new }
+        ensures posts { PostsHeard self.old self.new }
+        ensures near { ReadsNear self.new }
     {
         self.node.turn(alloc, input, &mut Nothing)
     }
@@ -71,6 +72,6 @@ impl Head {
             entrance: _,
             exit,
         } = node;
-        lower_end(exit)
+        upper_end(exit)
     }
 }

@@ -11,7 +11,7 @@ ghost use Rattle.ws_steps.specs.declared.calls.HostCall.TheVariants as host_call
 ghost use Rattle.ws_node.specs.Moves.{Answers, Asks, DrawsNear, Enqueues, Fails, Finishes, Flushes, MayAnswer, MayTake, PutsOut, Reads, Takes, Writes, fails, finishes_by, is_sink, settles, settles_by, takes_chunk, transforms_by, writes_by};
 ghost use Rattle.ws_node.specs.Node.{is_busy, is_reached, stage_of};
 ghost use Rattle.ws_node.specs.Past.{Driven, HasCounts};
-ghost use Rattle.ws_node.specs.Turns.{Follows, HasHeard, IsBegun, NoneHeard, SameEnds};
+ghost use Rattle.ws_node.specs.Turns.{GivesHeard, HasHeard, IsBegun, NoneHeard, SameEnds};
 ghost use Rattle.ws_node.specs.Went.{Went};
 
 use crate::node::{Abort, Entrance, Exit, Input, Node, Output};
@@ -79,6 +79,7 @@ impl Node {
         ensures begun { is_busy self.old.core ≡ true → self.new.core.stopped ≡ None
             → IsBegun self.old self.new }
         ensures idle { is_busy self.old.core ≡ false → SameEnds self.old self.new }
+        ensures gives { GivesHeard self.old self.new }
     {
         // the first round stands apart, since it tells what the turn began with
         let mut jobs = self.work(JOBS_OF_A_TURN);
@@ -102,7 +103,7 @@ impl Node {
             (moment (S.faults input.old) (S.feed input.old) (K.faults output.old) (K.finished output.old))
             (moment (S.faults input.new) (S.feed input.new) (K.faults output.new) (K.finished output.new))
             (K.got output.old) (K.got output.new) }
-        ensures follows { Follows self.old self.new }
+        ensures gives { GivesHeard self.old self.new }
         ensures heard { result ≡ true → HasHeard self.old self.new }
         ensures none { result ≡ false → self.new.core.stopped ≡ None → NoneHeard self.old }
         ensures ends { result ≡ false → SameEnds self.old self.new }
@@ -163,7 +164,7 @@ impl Node {
     }
 
     /// Answers the pull that waits by one read of the input, once all that was read before was had. An input that
-    /// ended or failed isn't read again.
+    /// ended or failed isn't read again, and none is once an error came up.
     fn read<S: Source>(&mut self, alloc: Global, input: &mut S)
         requires { HasCounts self.old.entrance }
         ensures { Reads self.old self.new
@@ -173,6 +174,9 @@ impl Node {
             return;
         }
         if self.entrance.ahead > 0 {
+            return;
+        }
+        if self.exit.broken {
             return;
         }
         if !self.entrance.input.is_open() {

@@ -1,4 +1,5 @@
 //! What holds of every whole node, that of a plan without workers, told of its definitions alone.
+ghost use Rattle.ws_node.specs.Ends.{EachWholeNamesItsReason};
 ghost use Rattle.ws_node.specs.Flow.{EachGoesOn, EachNodeKeepsFlow};
 ghost use Rattle.ws_node.specs.Sound.{EachSoundNodeIsWhole};
 
@@ -38,4 +39,15 @@ pub fn each_sound_node_is_whole()
 /// Of: nodes.
 pub fn each_turn_goes_on<K: Sink>()
     ensures { EachGoesOn K.got }
+{}
+
+/// The pipe into the sink of a whole node is never rejected with a TypeError, a RangeError, a DataCloneError or a
+/// user's reason, nor with one that is no fault: each with which it is rejected has a status of its own.
+///
+/// Such a reason is that a read failed, that a write did, that more was read than may be, that of a stage, or that of
+/// the abort. Where memory was wanting the pipe isn't rejected for that.
+///
+/// Of: nodes, reasons.
+pub fn each_whole_names_its_reason()
+    ensures { EachWholeNamesItsReason }
 {}

@@ -328,6 +328,7 @@ impl Node {
                     Output::Open
                 },
                 below,
+                broken: false,
             },
         })
     }

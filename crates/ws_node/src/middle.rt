@@ -4,7 +4,7 @@ ghost use Rattle.ws_node.specs.Nodes.{MiddleGoes};
 ghost use Rattle.ws_node.specs.Opening.{IsAccepted};
 ghost use Rattle.ws_node.specs.Past.{Driven, IsNew, IsUnused};
 ghost use Rattle.ws_node.specs.Shares.{middle_of, stages_ahead_of};
-ghost use Rattle.ws_node.specs.Turns.{TurnIs};
+ghost use Rattle.ws_node.specs.Turns.{PostsHeard, TurnIs};
 
 use crate::ends::{lower_end, upper_end};
 use crate::making::{Share, stages_ahead_of};
@@ -69,6 +69,7 @@ impl Middle {
     pub fn turn(&mut self, alloc: Global) -> Turn
         ensures went { MiddleGoes self.old self.new }
         ensures turn { TurnIs result self.old self.new }
+        ensures posts { PostsHeard self.old self.new }
     {
         self.node.turn(alloc, &mut Nothing, &mut Nothing)
     }
@@ -85,6 +86,6 @@ impl Middle {
             entrance,
             exit,
         } = node;
-        (upper_end(entrance), lower_end(exit))
+        (lower_end(entrance), upper_end(exit))
     }
 }

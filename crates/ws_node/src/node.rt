@@ -104,6 +104,8 @@ pub struct Exit {
     pub abort: Option<Abort>,
     pub output: Output,
     pub below: Option<End>,
+    /// Whether an error came up over the edge.
+    pub broken: bool,
 }
 
 /// The realm of a run, and what its host knows. The streams were made in order: the source, for each stage the two

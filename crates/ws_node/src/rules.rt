@@ -1,5 +1,5 @@
 //! What holds of every node for what goes over its edges, told of its definitions alone.
-ghost use Rattle.ws_node.specs.Rules.{EachEdgeKeepsRules, EachErrorHasItsCause, EachGivenChunkIsShort, EachNodeIsLegal, EachNodeKeepsCredit};
+ghost use Rattle.ws_node.specs.Rules.{EachEdgeKeepsRules, EachErrorHasItsCause, EachGivenChunkIsShort, EachHeadReadsLittleAhead, EachJoinedHeadReadsLittleAhead, EachNodeIsLegal, EachNodeKeepsCredit};
 
 /// What the ends of a node were given to post is legal: nothing stands behind a close or an error, down go chunks of
 /// bytes, a close and errors alone, and up go pulls and errors.
@@ -42,4 +42,23 @@ pub fn each_error_has_its_cause()
 /// Of: nodes, ports.
 pub fn each_edge_keeps_rules()
     ensures { EachEdgeKeepsRules }
+{}
+
+/// What a node took that reads the input and feeds an edge, without stages, is longer than what it posted by at most
+/// 4,096 bytes for each pull that came up, and one more, less the chunks that it posted.
+///
+/// What it posted is part of what it took. Behind an error that came up it reads nothing more, so that counts for no
+/// pull. It is said however the node ended, also for want of memory.
+///
+/// Of: nodes, ports.
+pub fn each_head_reads_little_ahead()
+    ensures { EachHeadReadsLittleAhead }
+{}
+
+/// What the upper node of an edge took that reads the input, without stages, is at most 8,192 bytes longer than what it
+/// posted, where what each of the two received is a first part of what the other sent.
+///
+/// Of: nodes, ports.
+pub fn each_joined_head_reads_little_ahead()
+    ensures { EachJoinedHeadReadsLittleAhead }
 {}

@@ -6,9 +6,9 @@ ghost use Rattle.ws_node.specs.Nodes.{TailGoes};
 ghost use Rattle.ws_node.specs.Opening.{IsAccepted};
 ghost use Rattle.ws_node.specs.Past.{Driven, IsNew, IsUnused};
 ghost use Rattle.ws_node.specs.Shares.{tail_of};
-ghost use Rattle.ws_node.specs.Turns.{TurnIs};
+ghost use Rattle.ws_node.specs.Turns.{PostsHeard, TurnIs};
 
-use crate::ends::upper_end;
+use crate::ends::lower_end;
 use crate::making::Share;
 use crate::node::Node;
 use crate::turn::Turn;
@@ -59,6 +59,7 @@ impl Tail {
             (moment 0 None (K.faults output.new) (K.finished output.new))
             (K.got output.old) (K.got output.new) self.old self.new }
         ensures turn { TurnIs result self.old self.new }
+        ensures posts { PostsHeard self.old self.new }
     {
         self.node.turn(alloc, &mut Nothing, output)
     }
@@ -82,6 +83,6 @@ impl Tail {
             entrance,
             exit: _,
         } = node;
-        upper_end(entrance)
+        lower_end(entrance)
     }
 }

@@ -2,7 +2,7 @@
 ghost use Rattle.std.specs.Prelude.{◌≡◌, false};
 ghost use Rattle.ws_io.specs.Moment.{moment};
 ghost use Rattle.ws_node.specs.Past.{Driven};
-ghost use Rattle.ws_node.specs.Turns.{TurnIs};
+ghost use Rattle.ws_node.specs.Turns.{PostsHeard, TurnIs};
 ghost use Rattle.ws_node.specs.Went.{Went};
 
 use crate::node::Node;
@@ -37,6 +37,7 @@ impl Node {
             (moment (S.faults input.new) (S.feed input.new) (K.faults output.new) (K.finished output.new))
             (K.got output.old) (K.got output.new) }
         ensures turn { TurnIs result self.old self.new }
+        ensures posts { PostsHeard self.old self.new }
     {
         match self.core.stopped {
             Some(Why::NoMemory) => return Turn::NoMemory,

@@ -5,7 +5,7 @@ ghost use Rattle.ws_node.specs.Ends.{EndsAs};
 ghost use Rattle.ws_node.specs.Opening.{IsAccepted};
 ghost use Rattle.ws_node.specs.Past.{HasCounts, IsNew};
 ghost use Rattle.ws_node.specs.Shares.{whole_of};
-ghost use Rattle.ws_node.specs.Turns.{TurnIs};
+ghost use Rattle.ws_node.specs.Turns.{IsAlone, TurnIs};
 ghost use Rattle.ws_node.specs.Went.{Went};
 
 use crate::making::Share;
@@ -25,16 +25,15 @@ pub struct Whole {
 }
 
 impl Model for Whole {
-    ghost use Rattle.std.specs.Prelude.{◌≡◌, false};
     ghost use Rattle.ws_node.specs.declared.node.Node.{Node};
-    ghost use Rattle.ws_node.specs.Node.{feeds_edge};
     ghost use Rattle.ws_node.specs.Past.{Driven};
+    ghost use Rattle.ws_node.specs.Turns.{IsAlone};
 
     ghost Value = { Node };
 
     ghost view = { λ w. w.node };
 
-    ghost invariant = { λ w. Driven w.node × (feeds_edge w.node.exit.output ≡ false) };
+    ghost invariant = { λ w. Driven w.node × IsAlone w.node };
 }
 
 impl Whole {
@@ -56,6 +55,7 @@ impl Whole {
             (K.got output.old) (K.got output.new) }
         ensures turn { TurnIs result self.old self.new }
         ensures counts { HasCounts self.new.entrance }
+        ensures alone { IsAlone self.old × IsAlone self.new }
     {
         self.node.turn(alloc, input, output)
     }
@@ -63,7 +63,8 @@ impl Whole {
     /// How the run ends, by how its pipe into the sink settled: none says that it is pending, and that memory wasn't
     /// wanting. An output that was finished has all that came out, so that is the end whatever is wanting afterwards.
     pub fn status(&self) -> Option<Status>
-        ensures { EndsAs result self.now }
+        ensures ends { EndsAs result self.now }
+        ensures alone { IsAlone self.now }
     {
         self.node.status()
     }

@@ -3,7 +3,8 @@ use Rattle.ws_io.specs.Moment.{moment}
 use Rattle.ws_node.specs.declared.node.Node.{Node}
 use Rattle.ws_node.specs.Nodes.{any_bytes}
 use Rattle.ws_node.specs.Went.{Went}
-use Rattle.ws_node.proofs.Joining.{went-any}
+use Rattle.ws_node.proofs.Ahead.{each_head_reads_little_ahead}
+use Rattle.ws_node.proofs.Joining.{head-goes, went-any}
 use Rattle.ws_node.proofs.head.Head.turn.Goals as goal
 
 pub returns-clause-went : goal.returns-clause-went
@@ -12,3 +13,10 @@ returns-clause-went g c =
     (moment (g.S.Source.faults c.turn.new.input) (g.S.Source.feed c.turn.new.input) 0 None) any_bytes any_bytes)
     c.self.view_is
     (went-any c.self.inside.node c.turn.new.self _ _ _ _ c.turn.ensures.went)
+
+pub returns-clause-near : goal.returns-clause-near
+returns-clause-near g c =
+    each_head_reads_little_ahead c.turn.new.self c.turn.ensures.driven (head-goes c.self.inside.node c.turn.new.self _ _ _ _ c.turn.ensures.went c.self.invariant.1)
+
+pub invariant_of-self : goal.invariant_of-self
+invariant_of-self g c = (c.turn.ensures.driven, head-goes c.self.inside.node c.turn.new.self _ _ _ _ c.turn.ensures.went c.self.invariant.1)

@@ -1,6 +1,6 @@
 use Rattle.ws_io.specs.Moment.{moment}
 use Rattle.ws_node.specs.Past.{Driven}
-use Rattle.ws_node.specs.Turns.{IsBegun}
+use Rattle.ws_node.specs.Turns.{GivesHeard, IsBegun}
 use Rattle.ws_node.specs.Went.{Went}
 use Rattle.ws_node.proofs.node.Node.go_on.Given as goal
 
@@ -12,3 +12,4 @@ invariant-loop g l =
     (moment (g.S.Source.faults l.input) (g.S.Source.feed l.input) (g.K.Sink.faults l.output) (g.K.Sink.finished l.output))
     (g.K.Sink.got l.fn.output) (g.K.Sink.got l.output))
     × IsBegun l.fn.self l.self
+    × GivesHeard l.fn.self l.self

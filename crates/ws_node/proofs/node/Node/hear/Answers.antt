@@ -1,9 +1,9 @@
-use Rattle.std.proofs.Common.{[], ◌∷◌, sym, ◌∙◌}
+use Rattle.std.proofs.Common.{sym, ◌∙◌}
 use Rattle.ws_io.specs.Moment.{moment}
-use Rattle.ws_steps.specs.Run.{Heard}
 use Rattle.ws_node.specs.Moves.{with_realm}
 use Rattle.ws_node.proofs.Asking.{is_none_so}
-use Rattle.ws_node.proofs.Begun.{heard, goes-follows}
+use Rattle.ws_node.proofs.Begun.{heard}
+use Rattle.ws_node.proofs.Giving.{gives-same, heard-of, hears-give, none-gives}
 use Rattle.ws_node.proofs.Going.{went-same, went-then}
 use Rattle.ws_node.proofs.Handled.{since-handled, driven-handled}
 use Rattle.ws_node.proofs.Hearing.{hears, hears-none, may-hear}
@@ -63,18 +63,22 @@ returns-clause-went g c =
 
 pub returns-clause-heard : goal.returns-clause-heard
 returns-clause-heard g c e =
-    heard c.args.self.now c.next_event.new.self c.hear_of.new.self c.read.new.self c.in-Some.event (record { faults = g.K.Sink.faults c.args.output.now; finished = g.K.Sink.finished c.args.output.now })
+    let h = heard-of c.args.self.now c.next_event.new.self c.hear_of.new.self c.read.new.self c.in-Some.event (record { faults = g.K.Sink.faults c.args.output.now; finished = g.K.Sink.finished c.args.output.now })
     (record { faults = g.K.Sink.faults c.hear_of.new.output; finished = g.K.Sink.finished c.hear_of.new.output }) (g.K.Sink.got c.args.output.now) (g.K.Sink.got c.hear_of.new.output)
     (g.S.Source.feed c.args.input.now) (g.S.Source.feed c.read.new.input) (g.S.Source.faults c.args.input.now) (g.S.Source.faults c.read.new.input)
-    (is_none_so c.args.self.now.core.stopped (sym c.is_some.ensures ∙ c.if-is_some.false)) (sym c.in-Some.ensures.event) c.next_event.ensures.slots c.hear_of.ensures c.read.ensures
+    (sym c.in-Some.ensures.event) c.next_event.ensures.slots c.hear_of.ensures c.read.ensures in
+    heard c.args.self.now c.read.new.self c.in-Some.event (is_none_so c.args.self.now.core.stopped (sym c.is_some.ensures ∙ c.if-is_some.false)) (sym c.in-Some.ensures.event) h
 
-pub returns-clause-follows : goal.returns-clause-follows
-returns-clause-follows g c =
-    goes-follows Heard c.args.self.now c.read.new.self (
-    heard c.args.self.now c.next_event.new.self c.hear_of.new.self c.read.new.self c.in-Some.event (record { faults = g.K.Sink.faults c.args.output.now; finished = g.K.Sink.finished c.args.output.now })
+pub returns-clause-gives : goal.returns-clause-gives
+returns-clause-gives g c =
+    hears-give c.in-Some.event c.args.self.now c.read.new.self
+    (heard-of c.args.self.now c.next_event.new.self c.hear_of.new.self c.read.new.self c.in-Some.event (record { faults = g.K.Sink.faults c.args.output.now; finished = g.K.Sink.finished c.args.output.now })
     (record { faults = g.K.Sink.faults c.hear_of.new.output; finished = g.K.Sink.finished c.hear_of.new.output }) (g.K.Sink.got c.args.output.now) (g.K.Sink.got c.hear_of.new.output)
     (g.S.Source.feed c.args.input.now) (g.S.Source.feed c.read.new.input) (g.S.Source.faults c.args.input.now) (g.S.Source.faults c.read.new.input)
-    (is_none_so c.args.self.now.core.stopped (sym c.is_some.ensures ∙ c.if-is_some.false)) (sym c.in-Some.ensures.event) c.next_event.ensures.slots c.hear_of.ensures c.read.ensures).goes
+    (sym c.in-Some.ensures.event) c.next_event.ensures.slots c.hear_of.ensures c.read.ensures)
 
-pub returns-in_default-clause-follows : goal.returns-in_default-clause-follows
-returns-in_default-clause-follows g c = record { entries = Heard ∷ []; slots = c.next_event.ensures.slots }
+pub returns-in_default-clause-gives : goal.returns-in_default-clause-gives
+returns-in_default-clause-gives g c = none-gives c.args.self.now c.next_event.new.self (sym c.in_default.ensures.event) c.next_event.ensures.slots
+
+pub returns-then-is_some-clause-gives : goal.returns-then-is_some-clause-gives
+returns-then-is_some-clause-gives g c = gives-same c.args.self.now

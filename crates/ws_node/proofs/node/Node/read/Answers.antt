@@ -1,4 +1,4 @@
-use Rattle.std.proofs.Common.{refl, sym, ◌∙◌, ap, arith}
+use Rattle.std.proofs.Common.{refl, sym, ◌∙◌, ap, arith, rules}
 use Rattle.ws_node.specs.Moves.{ReadOnce, Wanted}
 use Rattle.ws_node.proofs.Asking.{is_none_so, may_read, shut-rests, stopped-rests, unread}
 use Rattle.ws_node.proofs.node.Node.read.Goals as goal
@@ -13,7 +13,7 @@ returns-then-not-is_open g c =
 
 pub returns-in-Ok : goal.returns-in-Ok
 returns-in-Ok g c =
-    ReadOnce (is_none_so c.args.self.now.core.stopped (sym c.is_some.ensures ∙ c.if-is_some.false)) (omega arith)
+    ReadOnce (is_none_so c.args.self.now.core.stopped (sym c.is_some.ensures ∙ c.if-is_some.false)) (omega arith) (search rules)
     (may_read c.args.self.now.entrance.input c.is_open.result c.is_open.ensures c.if-not-is_open.false) c.in-Some.pull c.in-Some.is c.min-want.result (omega arith) (omega arith) c.in-Ok.piece
     c.in-Ok.ensures.piece c.take.new.self c.take.ensures c.settle.ensures
 

@@ -8,11 +8,11 @@ pub returns-in_default-take : goal.returns-in_default-take
 returns-in_default-take c =
     let t = c.in_default-take.ensures in
     NoneBelow refl (is_none_so c.args.self.now.core.stopped (sym c.is_some.ensures ∙ c.if-is_some.false)) c.in-Some.end c.take.new.self c.in-Some.is
-    (looked c.in-Some.end c.take.new.self t.to t.waiting t.row t.looked t.none t.untaken) refl
+    (looked c.in-Some.end c.take.new.self t.to t.waiting t.traced t.row t.looked t.none t.untaken) refl
 
 pub returns : goal.returns
 returns c =
     let t = c.in-Some-take.ensures in
-    took-below c.args.self.now c.deliver.new.self c.port_below-port.result c.in-Some-take.message c.as_fair.result c.in-Some.end c.take.new.self
+    took-below c.args.self.now c.bring_up.new.self c.port_below-port.result c.in-Some-take.message c.as_fair.result c.in-Some.end c.take.new.self
     (is_none_so c.args.self.now.core.stopped (sym c.is_some.ensures ∙ c.if-is_some.false)) c.in-Some.is
-    (record { to = t.to; waiting = t.waiting; row = t.row; received = t.taken }) c.port_below-port.ensures c.as_fair.ensures c.deliver.ensures
+    (record { to = t.to; waiting = t.waiting; traced = t.traced; row = t.row; received = t.taken }) c.port_below-port.ensures c.as_fair.ensures c.bring_up.ensures

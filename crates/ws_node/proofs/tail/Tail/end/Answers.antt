@@ -1,5 +1,5 @@
 use Rattle.ws_node.proofs.Joining.{above-some}
 use Rattle.ws_node.proofs.tail.Tail.end.Goals as goal
 
-pub upper_end-requires : goal.upper_end-requires
-upper_end-requires c = above-some c.self.inside.node c.self.invariant.0 c.self.invariant.1
+pub lower_end-requires : goal.lower_end-requires
+lower_end-requires c = above-some c.self.inside.node c.self.invariant.0 c.self.invariant.1
