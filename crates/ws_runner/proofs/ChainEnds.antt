@@ -1,7 +1,7 @@
 -- A run with workers ends as a run of its plan may end.
-use Rattle.std.proofs.Common.{◌≡◌, ◌≢◌, ◌+◌, ◌<◌, ◌≤◌, ℕ, suc, ℤ, pos, Bool, true, false, cond, List, [], ◌∷◌, ◌++◌, length, map, nat_abs, Option, Some, None, refl, sym, ap, ◌∙◌, subst, append-nil, arith}
-use Rattle.std.specs.Prelude.{All, Contains, int_le}
-use Rattle.std.specs.List.{concat, count_by, filter, list_all}
+use Rattle.std.proofs.Common.{◌≡◌, ◌≢◌, ◌+◌, ◌<◌, ℕ, suc, ℤ, pos, true, false, List, [], ◌∷◌, ◌++◌, length, nat_abs, Option, Some, None, refl, sym, ap, ◌∙◌, subst, arith}
+use Rattle.std.specs.Prelude.{All, int_le}
+use Rattle.std.specs.List.{concat}
 use Rattle.std.proofs.lemmas.List.Elements.{All-nil, All-cons, Contains-push}
 use Rattle.ws_value.specs.declared.fault.Fault.TheVariants as fault
 use Rattle.ws_value.specs.declared.value.Message.{Message}
@@ -21,20 +21,19 @@ use Rattle.ws_flow.specs.Told.{bytes_of, Mark, Open as MayCome, Closed, Broken a
 use Rattle.ws_flow.proofs.Lengths.{accepted}
 use Rattle.ws_flow.proofs.Told.{before_of_short}
 use Rattle.ws_io.specs.Faults.{Rose}
-use Rattle.ws_io.specs.Gain.{Becomes, KeepsTold}
 use Rattle.ws_io.specs.Moment.{Moment}
 use Rattle.ws_io.specs.declared.status.Status.{Status}
 use Rattle.ws_io.specs.declared.status.Status.TheVariants as status
 use Rattle.ws_joined_laws.specs.Condition.{AreInRange}
 use Rattle.ws_joined_laws.specs.Ends as joined_ends
-use Rattle.ws_joined_laws.specs.Ends.{StopsNear}
+use Rattle.ws_joined_laws.specs.Finished.{NodesTell}
 use Rattle.ws_joined_laws.specs.Joined as joined
 use Rattle.ws_joined_laws.specs.Joined.{members, AreCounted}
-use Rattle.ws_joined_laws.specs.Reasons.{reasons_in, HasCause, Own as OwnCause, IsOwn}
+use Rattle.ws_joined_laws.specs.Reasons.{reasons_in, HasCause, Own as OwnCause}
 use Rattle.ws_joined_laws.specs.RunEnds as run_ends
-use Rattle.ws_joined_laws.specs.RunEnds.{Pipeline, EndsSo, FindsSo, HeadTells, TailTells, RunTells, IsStatus, Complete, Rejected, Wanting}
+use Rattle.ws_joined_laws.specs.RunEnds.{Pipeline, EndsSo, FindsSo, HeadTells, RunTells, IsStatus, Complete, Rejected, Wanting}
 use Rattle.ws_joined_laws.proofs.RunEnds.{each-run-tells-its-end}
-use Rattle.ws_node.specs.declared.making.Share.TheVariants.{Of, None as NoneOfThem}
+use Rattle.ws_node.specs.declared.making.Share.TheVariants.{Of}
 use Rattle.ws_node.specs.declared.node.Abort.{Abort}
 use Rattle.ws_node.specs.declared.node.Input.{Input}
 use Rattle.ws_node.specs.declared.node.Input.TheVariants as input
@@ -43,82 +42,21 @@ use Rattle.ws_node.specs.declared.node.Output.{Output}
 use Rattle.ws_node.specs.declared.node.Output.TheVariants as output
 use Rattle.ws_runner.specs.Chain.{HasEnded, EachChainEnds}
 use Rattle.ws_node.specs.Rules.{EachNodeSendsDown}
-use Rattle.ws_node.specs.Ends.{IsReadToEnd, ReadAs, IsDone, IsBad, IsAborted, IsWithinAbort, Allows, Leaves, Ends, EndsAs, EndsBy, EndedBy, Own, Passed, status_of}
+use Rattle.ws_node.specs.Ends.{ReadAs, IsBad, IsAborted, IsWithinAbort, Allows, Leaves, Ends, EndsBy, EndedBy, Own, Passed, status_of}
 use Rattle.ws_node.specs.Messages.{fairly}
-use Rattle.ws_node.specs.Node.{feeds_edge, held, is_edge, is_reached, nothing_yet, parts, received_at, sent_at}
-use Rattle.ws_node.specs.Nodes.{Each, HaveMet, AllHaveMet, AreNewFrom, AreNew, AllGo, HeadGoes, MiddleGoes, TailGoes, Nodes, of_input, of_output, of_neither, any_bytes}
-use Rattle.ws_node.specs.Opening.{abort_of}
-use Rattle.ws_node.specs.Past.{Counts, Driven, HasCounts, IsNew}
-use Rattle.ws_node.specs.Shares.{head_of, is_in, middle_of, shared, stages_ahead_of, tail_of}
-use Rattle.ws_node.specs.Went.{AbortGoes, broken_by, EdgeGoes, FromGoes, InputGoes, OutputGoes, PostsOn, TakesOn, ToGoes, Went}
-use Rattle.ws_node.proofs.Passing.{Inside, Between, first_node, node_between, last_node, nodes_on, SendsFairly, Starts, Passes, Stops, PassOn, tell}
+use Rattle.ws_node.specs.Node.{feeds_edge, held, is_edge, is_reached, parts, received_at, sent_at}
+use Rattle.ws_node.specs.Nodes.{Each, AllHaveMet, AreNewFrom, HeadGoes, MiddleGoes, TailGoes, Nodes, of_input, of_output, of_neither, any_bytes}
+use Rattle.ws_node.specs.Past.{Driven, HasCounts, IsNew}
+use Rattle.ws_node.specs.Shares.{head_of, middle_of, shared, stages_ahead_of, tail_of}
+use Rattle.ws_node.specs.Went.{edge_after, EdgeGoes, FromGoes, InputGoes, OutputGoes, ToGoes}
+use Rattle.ws_node.proofs.Passing.{Between, first_node, node_between, last_node, nodes_on, SendsFairly, Starts, Passes, Stops, PassOn, tell}
+use Rattle.ws_node.proofs.Sharing.{none-shared}
 use Rattle.ws_node.proofs.SinceNew.{finds_of, inside_of, failed-is, long-is, write-is, edge-unfailed, edge-short, own-stage, has_failed, is_too_long, is_failed, passed-on, sends-fairly, by-input, by-edge, to-output, to-edge, flows-since, first-since, went-since, came-since}
+use Rattle.ws_runner.proofs.Outside.{InputTells, input-tells, OutputTells, output-tells, stops-near, abort-reached}
 use Rattle.ws_runner.proofs.Workers.{ArePlaced, accepted-placed, ahead_in, ahead-next, all-ahead, none-ahead, some-stages, stages_from, workers-stages}
 
 abbrev pipeline_of : Plan → Pipeline
 pipeline_of plan = record { stages = stages_of plan; most = nat_abs plan.max_input; abort_after = plan.abort_after }
-
--- The input
-
-record InputTells (b : Input) (read : Told (List ℕ)) (m₀ m₁ : Moment) : Type 0 where
-  pub read_as : run_ends.ReadAs read.mark m₀ m₁
-  pub ended : read.mark ≡ Closed → b ≢ input.TooLong
-  pub failed : b ≡ input.Failed → Rose m₀.read_faults m₁.read_faults
-
-as-unread : (m n : Mark) (m₀ m₁ : Moment) → m ≡ n → run_ends.ReadAs n m₀ m₁ → run_ends.ReadAs m m₀ m₁
-as-unread m n m₀ m₁ e r = subst (λ q. run_ends.ReadAs q m₀ m₁) (sym e) r
-
-input-tells : (b : Input) (read : Told (List ℕ)) (m₀ m₁ : Moment) → InputGoes input.Open b read m₀ m₁ → InputTells b read m₀ m₁
-input-tells input.Open read m₀ m₁ (e, f, k) = record { read_as = as-unread read.mark MayCome m₀ m₁ e tt; ended = λ c d. cc; failed = λ c. absurd (cc) }
-input-tells input.Ended read m₀ m₁ (e, f, g, h) =
-    record { read_as = as-unread read.mark Closed m₀ m₁ e (record { ended = g; emptied = h; calm = f }); ended = λ c d. cc; failed = λ c. absurd (cc) }
-input-tells input.Failed read m₀ m₁ (e, f, k) = record { read_as = as-unread read.mark Lost m₀ m₁ e tt; ended = λ c d. cc; failed = λ c. f }
-input-tells input.TooLong read m₀ m₁ (e, f, k) = record { read_as = as-unread read.mark Lost m₀ m₁ e tt; ended = λ c d. cc; failed = λ c. absurd (cc) }
-input-tells input.Edge read m₀ m₁ h = absurd h
-input-tells (input.Broken reason) read m₀ m₁ h = absurd h
-
--- The output
-
-record OutputTells (b : Output) (out : Mark) (m₀ m₁ : Moment) : Type 0 where
-  pub closed : b ≡ output.Finished → out ≡ Closed
-  pub unclosed : b ≢ output.Finished → out ≢ Closed
-  pub finished : out ≡ Closed → (m₁.write_faults ≡ m₀.write_faults) × Becomes m₀.finished m₁.finished
-  pub unfinished : out ≢ Closed → KeepsTold m₀.finished m₁.finished
-  pub failed : b ≡ output.Failed → Rose m₀.write_faults m₁.write_faults
-
-output-tells : (b : Output) (gain : List ℕ) (out : Mark) (m₀ m₁ : Moment) → OutputGoes output.Open b gain out m₀ m₁ → OutputTells b out m₀ m₁
-output-tells output.Open gain out m₀ m₁ (e, f, k) =
-    record { closed = λ c. absurd (cc); unclosed = λ c d. cc; finished = λ c. absurd (cc); unfinished = λ c. k; failed = λ c. absurd (cc) }
-output-tells output.Finished gain out m₀ m₁ (e, f, k) =
-    record { closed = λ c. e; unclosed = λ c. absurd (c refl); finished = λ c. (f, k); unfinished = λ c. absurd (c e); failed = λ c. absurd (cc) }
-output-tells output.Failed gain out m₀ m₁ (e, f, k) =
-    record { closed = λ c. absurd (cc); unclosed = λ c d. cc; finished = λ c. absurd (cc); unfinished = λ c. k; failed = λ c. f }
-output-tells output.Aborted gain out m₀ m₁ (e, f, k) =
-    record { closed = λ c. absurd (cc); unclosed = λ c d. cc; finished = λ c. absurd (cc); unfinished = λ c. k; failed = λ c. absurd (cc) }
-output-tells output.Edge gain out m₀ m₁ h = absurd h
-
-stops-near : (after : Option ℤ) (x y : Option Abort) (chunks : List (List ℕ)) (gain : List ℕ) (o : Output) → x ≡ abort_of after → AbortGoes x y chunks gain o
-    → StopsNear after chunks gain
-stops-near None x y chunks gain o e g = tt
-stops-near (Some after) (Some x) (Some y) chunks gain o e (same, near) = λ some.
-    let left : x.left ≡ nat_abs after = cc in
-    let s = near.last some in
-    record { before = s.before; chunk = s.chunk; after = s.after; split = s.split; from = s.from; to = s.to; fewer = subst (λ k. length (concat s.before) < k) left s.fewer }
-stops-near (Some after) None y chunks gain o e g = absurd (cc)
-stops-near (Some after) (Some x) None chunks gain o e g = absurd g
-
-abort-reached : (after : Option ℤ) (x y : Option Abort) (chunks : List (List ℕ)) (gain : List ℕ) (o : Output) → x ≡ abort_of after → AbortGoes x y chunks gain o
-    → is_reached y ≡ true → joined_ends.IsAborted after gain
-abort-reached (Some after) (Some x) (Some y) chunks gain o e (same, near) r =
-    let left : x.left ≡ nat_abs after = cc in
-    let none : y.left ≡ 0 = grind arith in
-    let counted = near.counted in
-    omega arith
-abort-reached (Some after) (Some x) None chunks gain o e g r = absurd g
-abort-reached (Some after) None y chunks gain o e g r = absurd (cc)
-abort-reached None None (Some y) chunks gain o e g r = absurd g
-abort-reached None None None chunks gain o e g r = absurd (cc)
-abort-reached None (Some x) y chunks gain o e g r = absurd (cc)
 
 -- The status
 
@@ -142,7 +80,7 @@ abbrev came_to : Node → List Plain
 came_to n = reasons_in (fairly (received_at n.entrance.above))
 
 -- the reason with which it ended, if there is one, and the status for that
-record TailEnds (n : Node) (finish : Mark) (s : Status) : Type 0 where
+pub record TailEnds (n : Node) (finish : Mark) (s : Status) : Type 0 where
   pub last : List Plain
   pub causes : All (HasCause (finds_of n) (parts n) (came_to n)) last
   pub status_is : IsStatus finish last s
@@ -170,26 +108,13 @@ module _ (n : Node) (finish : Mark) (closed : n.exit.output ≡ output.Finished 
   tail-ends s (Own by) = own-ends s by
   tail-ends s (Passed r c other e) = for-reason s r other (passed-on (finds_of n) (parts n) (came_to n) r c) (e ∙ same-status r)
 
--- The shapes
-
-none-taken : {A : Type 0} (t : A → Bool) (xs : List A) → ((x : A) → t x ≡ false) → filter t xs ≡ []
-none-taken t [] each = refl
-none-taken t (x ∷ xs) each = leaves (t x) (each x) (none-taken t xs each)
-  where
-    leaves : (b : Bool) → b ≡ false → filter t xs ≡ [] → cond b (x ∷ filter t xs) (filter t xs) ≡ []
-    leaves false e f = f
-    leaves true e f = absurd (cc)
-
-none-shared : (ps : List Placed) → shared NoneOfThem ps ≡ []
-none-shared ps = ap (λ qs. map (λ (p : Placed). p.stage) qs) (none-taken (is_in NoneOfThem) ps (λ p. refl))
-
 -- One node
 
 abbrev between_of : List Stage → Node → Between
 between_of ss n = record { inside = inside_of ss n; received = received_at n.entrance.above; sent = sent_at n.exit.below }
 
 module _ (rules : EachNodeSendsDown) where
-  starts : (plan : Plan) (old new : Moment) (a b : Node) → IsNew (head_of plan) 0 None a → (w : HeadGoes old new a b) → Driven b
+  pub starts : (plan : Plan) (old new : Moment) (a b : Node) → IsNew (head_of plan) 0 None a → (w : HeadGoes old new a b) → Driven b
       → Starts w.read (inside_of (head_of plan).stages b) (sent_at b.exit.below)
   starts plan old new a b n w d =
       let edge : feeds_edge a.exit.output ≡ true = ap feeds_edge n.output in
@@ -221,10 +146,10 @@ module _ (rules : EachNodeSendsDown) where
         sends = sends-fairly (middle_of worker plan).stages b still (rules b d still);
       }
 
-stops : (plan : Plan) (first : ℕ) (old new : Moment) (got got' : List ℕ → Type 0) (a b : Node) (n : IsNew (tail_of plan) first plan.abort_after a) (w : TailGoes old new got got' a b)
-    (s : Status) → (t : TailEnds b w.out s)
-    → Stops plan.abort_after (inside_of (tail_of plan).stages b) (received_at b.entrance.above) (told w.gain w.out) t.last
-stops plan first old new got got' a b n w s t =
+pub stops : (plan : Plan) (first : ℕ) (old new : Moment) (got got' : List ℕ → Type 0) (a b : Node) (n : IsNew (tail_of plan) first plan.abort_after a) (w : TailGoes old new got got' a b)
+    (last : List Plain) → All (HasCause (finds_of b) (parts b) (came_to b)) last
+    → Stops plan.abort_after (inside_of (tail_of plan).stages b) (received_at b.entrance.above) (told w.gain w.out) last
+stops plan first old new got got' a b n w last causes =
     let out = to-output a.exit b.exit (of_output old) (of_output new) got got' w.went w.gain w.out (ap feeds_edge n.output) w.into in
     record {
       went = w.went;
@@ -233,12 +158,12 @@ stops plan first old new got got' a b n w s t =
           (flows-since (tail_of plan) first plan.abort_after a b (of_output old) (of_output new) got got' n w);
       written = before_of_short (told w.gain w.out) (bytes_of w.went) out.written;
       near = stops-near plan.abort_after a.exit.abort b.exit.abort w.went.items w.gain b.exit.output n.abort out.abort;
-      causes = t.causes;
+      causes = causes;
     }
 
 -- All between the first and the last
 
-abbrev betweens : ℕ → Plan → List Node → List Between
+abbrev pub betweens : ℕ → Plan → List Node → List Between
 betweens w plan [] = []
 betweens w plan (n ∷ ns) = between_of (middle_of (pos w) plan).stages n ∷ betweens (suc w) plan ns
 
@@ -248,7 +173,7 @@ each-length [] (b ∷ bs) e = absurd e
 each-length (a ∷ xs) [] e = absurd e
 each-length (a ∷ xs) (b ∷ bs) e = ap suc (each-length xs bs e.1)
 
-pass-on : EachNodeSendsDown → (w : ℕ) (plan : Plan) (upper lower : Option AtEdge) (xs bs : List Node) → AreNewFrom w plan xs → Each MiddleGoes xs bs → AllHaveMet upper bs lower
+pub pass-on : EachNodeSendsDown → (w : ℕ) (plan : Plan) (upper lower : Option AtEdge) (xs bs : List Node) → AreNewFrom w plan xs → Each MiddleGoes xs bs → AllHaveMet upper bs lower
     → PassOn (sent_at upper) (betweens w plan bs) (received_at lower)
 pass-on rules w plan upper lower [] [] n e m = (m.left_below, m.down)
 pass-on rules w plan upper lower [] (b ∷ bs) n e m = absurd e
@@ -297,7 +222,7 @@ unreached (Some x) e f = cc
 still-edge : (a b : Input) (taken : List Message) → a ≡ input.Edge → EdgeGoes a b taken → is_edge b ≡ true
 still-edge input.Edge b taken e g = ap is_edge g ∙ broken (reasons_in taken)
   where
-    broken : (rs : List Plain) → is_edge (broken_by rs) ≡ true
+    broken : (rs : List Plain) → is_edge (edge_after rs) ≡ true
     broken [] = refl
     broken (r ∷ rs) = refl
 still-edge input.Open b taken e g = absurd g
@@ -386,10 +311,10 @@ module _ (rules : EachNodeSendsDown) (plan : Plan) (s : Status) (a b : Nodes) (o
   abbrev high : ℕ
   high = nat_abs plan.workers
 
-  head-went : HeadGoes old new a.head b.head
+  abbrev pub head-went : HeadGoes old new a.head b.head
   head-went = h.went.head
 
-  tail-went : TailGoes old new got got' a.tail b.tail
+  abbrev pub tail-went : TailGoes old new got got' a.tail b.tail
   tail-went = h.went.tail
 
   abbrev read : Told (List ℕ)
@@ -411,7 +336,7 @@ module _ (rules : EachNodeSendsDown) (plan : Plan) (s : Status) (a b : Nodes) (o
   out-tells = output-tells b.tail.exit.output tail-went.gain tail-went.out (of_output old) (of_output new)
       (subst (λ o. OutputGoes o b.tail.exit.output tail-went.gain tail-went.out (of_output old) (of_output new)) h.begun.tail.output out.output)
 
-  ending : TailEnds b.tail tail-went.out s
+  pub ending : TailEnds b.tail tail-went.out s
   ending = tail-ends b.tail tail-went.out out-tells.closed out-tells.unclosed s h.status_is.by
 
   abbrev first : joined.Node
@@ -423,10 +348,10 @@ module _ (rules : EachNodeSendsDown) (plan : Plan) (s : Status) (a b : Nodes) (o
   abbrev all : List joined.Node
   all = first ∷ nodes_on (betweens 1 plan b.middles) end
 
-  many : length b.middles ≡ high
+  pub many : length b.middles ≡ high
   many = each-length a.middles b.middles h.went.middles ∙ h.begun.many
 
-  placed : ArePlaced 0 high ps
+  pub placed : ArePlaced 0 high ps
   placed = accepted-placed plan acc some
 
   all-stages : all_stages (members all) ≡ stages_of plan
@@ -493,17 +418,22 @@ module _ (rules : EachNodeSendsDown) (plan : Plan) (s : Status) (a b : Nodes) (o
         abort = λ f. abort-reached plan.abort_after a.tail.exit.abort b.tail.exit.abort tail-went.went.items tail-went.gain b.tail.exit.output h.begun.tail.abort out.abort f;
       }
 
+  -- so far as the pipe of the last one was rejected with these reasons
+  pub nodes-tell : (last : List Plain) → All (HasCause (finds_of b.tail) (parts b.tail) (came_to b.tail)) last → NodesTell plan.abort_after (bytes_of read) all gain last
+  nodes-tell last causes =
+      tell plan.abort_after (inside_of (tail_of plan).stages b.tail) (received_at b.tail.entrance.above) gain last
+      (stops plan (length ps) old new got got' a.tail b.tail h.begun.tail tail-went last causes)
+      read (inside_of (head_of plan).stages b.head) (sent_at b.head.exit.below) (betweens 1 plan b.middles)
+      (starts rules plan old new a.head b.head h.begun.head head-went h.head)
+      (pass-on rules 1 plan b.head.exit.below b.tail.entrance.above a.middles b.middles h.begun.middles h.went.middles h.met)
+      (subst (λ ss. AreInRange ss) (sym all-stages) (record { range = acc.range; hex = acc.hex; few = acc.stages }))
+      (subst (λ ss. sees_known_chunks false ss ≡ true) (sym all-stages) acc.known)
+      counted
+
   run-tells : RunTells (pipeline_of plan) old new (bytes_of read) all gain ending.last
   run-tells = record {
     stages = all-stages;
-    nodes = tell plan.abort_after (inside_of (tail_of plan).stages b.tail) (received_at b.tail.entrance.above) gain ending.last
-        (stops plan (length ps) old new got got' a.tail b.tail h.begun.tail tail-went s ending)
-        read (inside_of (head_of plan).stages b.head) (sent_at b.head.exit.below) (betweens 1 plan b.middles)
-        (starts rules plan old new a.head b.head h.begun.head head-went h.head)
-        (pass-on rules 1 plan b.head.exit.below b.tail.entrance.above a.middles b.middles h.begun.middles h.went.middles h.met)
-        (subst (λ ss. AreInRange ss) (sym all-stages) (record { range = acc.range; hex = acc.hex; few = acc.stages }))
-        (subst (λ ss. sees_known_chunks false ss ≡ true) (sym all-stages) acc.known)
-        counted;
+    nodes = nodes-tell ending.last ending.causes;
     head = head-tells;
     tail = record { finished = out-tells.finished; unfinished = out-tells.unfinished };
     ahead_by = λ e. absurd (some-stages plan acc some e);
@@ -515,21 +445,26 @@ module _ (rules : EachNodeSendsDown) (plan : Plan) (s : Status) (a b : Nodes) (o
   ends-so : EndsSo s (pipeline_of plan) old new (bytes_of read).items gain.items read.mark
   ends-so = each-run-tells-its-end s (pipeline_of plan) old new (bytes_of read) all gain ending.last run-tells ending.status_is
 
-  pub ends : Ends s plan old new got got'
-  ends = record {
-    taken = concat read.items;
-    gain = tail-went.gain;
-    mark = read.mark;
-    fed = ends-so.fed;
-    read = reads read.mark old new ends-so.read;
-    gained = out.gained;
-    first = ends-so.first;
-    bound = ends-so.bound;
-    ahead_by = ends-so.ahead_by;
-    abort = within plan.abort_after tail-went.gain ends-so.abort;
-    allowed = allows s plan read.mark old new (concat read.items) tail-went.gain ends-so.allowed;
-    finish_kept = leaves s old new ends-so.finish_kept;
-  }
+  -- with what was taken and what was gained
+  pub ends-of : (e : Ends s plan old new got got') × (e.taken ≡ concat read.items) × (e.gain ≡ tail-went.gain)
+  ends-of = (
+    record {
+      taken = concat read.items;
+      gain = tail-went.gain;
+      mark = read.mark;
+      fed = ends-so.fed;
+      read = reads read.mark old new ends-so.read;
+      gained = out.gained;
+      first = ends-so.first;
+      bound = ends-so.bound;
+      ahead_by = ends-so.ahead_by;
+      abort = within plan.abort_after tail-went.gain ends-so.abort;
+      allowed = allows s plan read.mark old new (concat read.items) tail-went.gain ends-so.allowed;
+      finish_kept = leaves s old new ends-so.finish_kept;
+    },
+    refl,
+    refl,
+  )
 
 pub chain-ends : EachNodeSendsDown → {K : Type 0} (got : K → List ℕ → Type 0) → EachChainEnds got
-chain-ends rules got plan s a b old new k₀ k₁ acc some h = ends rules plan s a b old new (got k₀) (got k₁) (accepted plan acc) some h
+chain-ends rules got plan s a b old new k₀ k₁ acc some h = (ends-of rules plan s a b old new (got k₀) (got k₁) (accepted plan acc) some h).0

@@ -1,2 +1,11 @@
+pub mod ChainAhead
 pub mod ChainEnds
+pub mod ChainReasons
+pub mod Marks
+pub mod Outside
+pub mod Places
+pub mod Traced
+pub mod Traces
+pub mod UpTo
+pub mod Whole
 pub mod Workers

@@ -1,7 +1,6 @@
 -- The stages of an accepted plan, worker by worker.
-use Rattle.std.proofs.Common.{◌≡◌, ℕ, zero, suc, ◌+◌, ◌<◌, ◌≤◌, ℤ, pos, negsuc, Bool, true, false, not, ◌&&◌, cond, List, [], ◌∷◌, ◌++◌, length, map, nat_abs, refl, sym, ap, ◌∙◌, subst, append-nil, append_assoc, length-append, arith}
-use Rattle.std.specs.Prelude.{if◌then◌else◌, int_le, ◌⊎◌}
-use Rattle.std.proofs.Common.{inl, inr}
+use Rattle.std.proofs.Common.{◌≡◌, ℕ, zero, suc, ◌+◌, ◌<◌, ◌≤◌, ℤ, pos, negsuc, Bool, true, false, not, ◌&&◌, cond, List, [], ◌∷◌, ◌++◌, length, map, nat_abs, refl, sym, ap, ◌∙◌, subst, append-nil, append_assoc, arith}
+use Rattle.std.specs.Prelude.{if◌then◌else◌, int_le}
 use Rattle.std.specs.List.{count_by, filter, list_all}
 use Rattle.std.proofs.lemmas.Bool.{and_parts}
 use Rattle.std.proofs.lemmas.List.Sums.{length-filter}
@@ -14,7 +13,7 @@ use Rattle.ws_flow.specs.Stages.{is_in_range, is_within}
 use Rattle.ws_node.specs.declared.making.Share.TheVariants.{Of}
 use Rattle.ws_node.specs.Shares.{is_ahead_of, is_in, shared}
 
-abbrev is_on : ℤ → Placed → Bool
+abbrev pub is_on : ℤ → Placed → Bool
 is_on worker p = is_in (Of worker) p
 
 abbrev pub stages_on : ℤ → List Placed → List Stage
@@ -40,21 +39,21 @@ abbrev pub ArePlaced : ℕ → ℕ → List Placed → Type 0
 ArePlaced low high [] = Unit {0}
 ArePlaced low high (p ∷ ps) = (h : IsPlaced low high p) × ArePlaced h.number high ps
 
-le-true : (a b : ℕ) → a ≤ b → int_le (pos a) (pos b) ≡ true
+pub le-true : (a b : ℕ) → a ≤ b → int_le (pos a) (pos b) ≡ true
 le-true a b h = grind arith
 
-le-false : (a b : ℕ) → b < a → int_le (pos a) (pos b) ≡ false
+pub le-false : (a b : ℕ) → b < a → int_le (pos a) (pos b) ≡ false
 le-false a b h = grind arith
 
 le-is : (a b : ℕ) → int_le (pos a) (pos b) ≡ true → a ≤ b
 le-is a b h = grind arith
 
-data Compared (a b : ℕ) : Type 0 where
+pub data Compared (a b : ℕ) : Type 0 where
   Less : a < b → Compared a b
   Same : a ≡ b → Compared a b
   More : b < a → Compared a b
 
-compared : (a b : ℕ) → Compared a b
+pub compared : (a b : ℕ) → Compared a b
 compared zero zero = Same refl
 compared zero (suc b) = Less (omega arith)
 compared (suc a) zero = More (omega arith)
@@ -70,14 +69,14 @@ at_least w p = int_le w p.worker
 
 -- what a test says of a stage on this worker
 
-on-less : (w k : ℕ) (p : Placed) → p.worker ≡ pos k → k < w → is_on (pos w) p ≡ false
+pub on-less : (w k : ℕ) (p : Placed) → p.worker ≡ pos k → k < w → is_on (pos w) p ≡ false
 on-less w k p e h = ap (λ z. int_le (pos w) z && int_le z (pos w)) e ∙ ap (λ b. b && int_le (pos k) (pos w)) (le-false w k h)
 
-on-same : (w k : ℕ) (p : Placed) → p.worker ≡ pos k → k ≡ w → is_on (pos w) p ≡ true
+pub on-same : (w k : ℕ) (p : Placed) → p.worker ≡ pos k → k ≡ w → is_on (pos w) p ≡ true
 on-same w k p e h =
     ap (λ z. int_le (pos w) z && int_le z (pos w)) e ∙ ap (λ b. b && int_le (pos k) (pos w)) (le-true w k (omega arith)) ∙ le-true k w (omega arith)
 
-on-more : (w k : ℕ) (p : Placed) → p.worker ≡ pos k → w < k → is_on (pos w) p ≡ false
+pub on-more : (w k : ℕ) (p : Placed) → p.worker ≡ pos k → w < k → is_on (pos w) p ≡ false
 on-more w k p e h =
     ap (λ z. int_le (pos w) z && int_le z (pos w)) e ∙ ap (λ b. b && int_le (pos k) (pos w)) (le-true w k (omega arith)) ∙ le-false k w h
 
@@ -88,10 +87,10 @@ least-more : (w k : ℕ) (p : Placed) → p.worker ≡ pos k → w ≤ k → at_
 least-more w k p e h = ap (λ z. int_le (pos w) z) e ∙ le-true w k h
 
 module _ {A : Type 0} (t : A → Bool) (x : A) (xs : List A) where
-  takes : t x ≡ true → filter t (x ∷ xs) ≡ x ∷ filter t xs
+  pub takes : t x ≡ true → filter t (x ∷ xs) ≡ x ∷ filter t xs
   takes e = ap (λ b. cond b (x ∷ filter t xs) (filter t xs)) e
 
-  leaves : t x ≡ false → filter t (x ∷ xs) ≡ filter t xs
+  pub leaves : t x ≡ false → filter t (x ∷ xs) ≡ filter t xs
   leaves e = ap (λ b. cond b (x ∷ filter t xs) (filter t xs)) e
 
   counts : t x ≡ true → count_by t (x ∷ xs) ≡ suc (count_by t xs)

@@ -1,1 +1,5 @@
 pub mod Chain
+pub mod Meeting
+pub mod Place
+pub mod Ready
+pub mod Trace

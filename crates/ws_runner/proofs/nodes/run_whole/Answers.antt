@@ -22,7 +22,7 @@ pub returns-in-Some-status : goal.returns-in-Some-status
 returns-in-Some-status g c =
     ends-from c.args.plan.now c.in-Ok.whole c.turn.new.self c.in-Some-status.status _ _ _ _ c.requires c.loop.invariant.0
     (went-then c.in-Ok.whole c.loop.whole c.turn.new.self _ _ _ _ _ _ c.loop.invariant.1 c.turn.ensures.went)
-    (subst (λ (status : Option Status). EndsAs status c.turn.new.self) c.in-Some-status.is c.status.ensures)
+    (subst (λ (status : Option Status). EndsAs status c.turn.new.self) c.in-Some-status.is c.status.ensures.ends)
 
 pub loop-preserved : goal.loop-preserved
 loop-preserved g c =

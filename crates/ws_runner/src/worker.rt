@@ -1,0 +1,147 @@
+//! Workers, each of which drives its node on a thread of its own.
+ghost use Rattle.std.specs.Prelude.{◌≡◌, ◌≤◌, List, [], vec_len, vec_capacity};
+ghost use Rattle.ws_node.specs.declared.node.Node.{Node};
+ghost use Rattle.ws_node.specs.Nodes.{Each, MiddleGoes};
+ghost use Rattle.ws_runner.specs.Place.{ArePlacesOf, IsPlaceOf};
+
+use crate::place::{HandsBack, Place};
+use crate::wake::{Bells, pause};
+use crossbeam_utils::Backoff;
+use crossbeam_utils::sync::Parker;
+use std::alloc::Global;
+use std::snapshot::Snapshot;
+use std::sync::{Wait, WaitMethods};
+use std::thread::{Scope, Threads};
+use ws_io::Gate;
+use ws_node::{Middle, Turn};
+
+/// A worker, before its start.
+#[derive(Drop)]
+pub struct Worker {
+    /// From 1.
+    pub number: u32,
+    pub parker: Parker,
+}
+
+impl Worker {
+    /// Drives a node until it is over. Where it finds nothing to do it is woken by those who drive its neighbours.
+    fn drive<R: Wait, G: Gate>(
+        self,
+        rt: &R,
+        alloc: Global,
+        node: Middle,
+        bells: &Bells,
+        gate: &G,
+    ) -> Middle
+        ensures { MiddleGoes node result }
+    {
+        let mut node = node;
+        let looks = Backoff::new();
+        let mut turn = 0u64;
+        for _ in rt.forever() {
+            turn = turn.saturating_add(1);
+            gate.enter(self.number, turn);
+            match node.turn(alloc) {
+                Turn::Worked => {
+                    looks.reset();
+                    bells.wake_around(self.number);
+                }
+                Turn::Ended | Turn::NoMemory => {
+                    bells.wake_around(self.number);
+                    return node;
+                }
+                Turn::Idle | Turn::Spent => pause(rt, &self.parker, &looks),
+            }
+        }
+        unreachable!()
+    }
+}
+
+/// Starts a worker. Where it is refused a thread, its node is the caller's to drive.
+fn start<'s, E, R: Wait + Sync, G: Gate>(
+    rt: &'s R,
+    alloc: Global,
+    scope: &Scope<'s, E>,
+    node: Middle,
+    worker: Worker,
+    bells: &'s Bells,
+    gate: &'s G,
+) -> Place
+    ensures { IsPlaceOf node result }
+{
+    let number = worker.number;
+    let promise = HandsBack {
+        was: Snapshot::of(&node),
+    };
+    let started = scope.spawn_with(
+        promise,
+        move || -> Middle
+            ensures { MiddleGoes node result }
+        {
+            if bells.is_refused(number) {
+                node
+            } else {
+                worker.drive(rt, alloc, node, bells, gate)
+            }
+        },
+    );
+    match started {
+        Ok(away) => Place::Away(away),
+        Err(refused) => {
+            bells.refuse(number);
+            Place::Here {
+                worker: number,
+                node: (refused.value)(),
+                over: false,
+            }
+        }
+    }
+}
+
+/// Starts the worker of each node.
+pub fn start_all<'s, E, R: Wait + Sync, G: Gate>(
+    rt: &'s R,
+    alloc: Global,
+    scope: &Scope<'s, E>,
+    nodes: Vec<Middle>,
+    workers: Vec<Worker>,
+    bells: &'s Bells,
+    gate: &'s G,
+    room: Vec<Place>,
+) -> Vec<Place>
+    requires workers { vec_len workers ≡ vec_len nodes }
+    requires room { (room.items ≡ []) × (vec_len nodes ≤ vec_capacity room) }
+    ensures { ArePlacesOf nodes.items result.items }
+{
+    let mut places = room;
+    let mut workers = workers.into_iter();
+    for node in nodes {
+        let Some(worker) = workers.next() else {
+            unreachable!()
+        };
+        places.push_reserved(start(rt, alloc, scope, node, worker, bells, gate));
+    }
+    places
+}
+
+/// The node at this place, once the worker has handed it back.
+fn join<R: Threads>(rt: &R, place: Place) -> Middle
+    ensures { (a : Node) → IsPlaceOf a place → MiddleGoes a result }
+{
+    match place {
+        Place::Away(worker) => worker.join(rt),
+        Place::Here { node, .. } => node,
+    }
+}
+
+/// The nodes of all workers, each of which has handed its own back.
+pub fn join_all<R: Threads>(rt: &R, places: Vec<Place>, room: Vec<Middle>) -> Vec<Middle>
+    requires { (room.items ≡ []) × (vec_len places ≤ vec_capacity room) }
+    ensures { (xs : List Node) → ArePlacesOf xs places.items → Each MiddleGoes xs result.items }
+{
+    let mut nodes = room;
+    for place in places {
+        nodes.push_reserved(join(rt, place));
+    }
+    nodes
+}
