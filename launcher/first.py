@@ -18,19 +18,21 @@ UNPROVED = (
     "The proof goes on ({}; {})"
 )
 DIES_WITH_PARENT = 1
+# The words behind which the name of a pipeline file stands.
+BEFORE_A_FILE = (["run"], ["run", "--trace"], ["check"])
 
 
 def job(words):
     """The words and the file that rt is handed, where the words name one; None where the file is none that can be read twice."""
-    if len(words) != 2 or words[0] not in ("run", "check"):
+    *command, file = words or [""]
+    if command not in BEFORE_A_FILE or words == ["run", "--trace"]:
         return words, []
-    file = words[1]
     if os.path.isfile(file) and os.access(file, os.R_OK):
-        return [words[0], "plan.toml"], ["--data", f"plan.toml={os.path.abspath(file)}"]
+        return [*command, "plan.toml"], ["--data", f"plan.toml={os.path.abspath(file)}"]
     if os.path.exists(file) and not os.path.isdir(file) and not os.path.isfile(file):
         return None
     # There is no such file in the folder that rt runs the program in either.
-    return [words[0], "missing.toml"], []
+    return [*command, "missing.toml"], []
 
 
 def tried(words, data, flags):

@@ -104,6 +104,10 @@ class Launcher(unittest.TestCase):
         ran = self.run_streams("run", "a plan.toml", given=b"input\n")
         self.assertEqual((ran.returncode, ran.stdout), (1, b"plan\ninput\n"), ran.stderr)
         self.assertEqual(ran.stderr.decode().splitlines()[-1], "stage 1 code 1 place 0")
+        ran = self.run_streams("run", "--trace", "a plan.toml", given=b"input\n")
+        self.assertEqual((ran.returncode, ran.stdout), (0, b"plan\ninput\n"), ran.stderr)
+        self.assertEqual(ran.stderr.decode().splitlines()[-1], "edge 1 down close taken 1")
+        self.assertEqual(self.run_streams("run", "--trace", given=b"input\n").returncode, 2)
 
     def test_a_missing_file_is_missing_for_an_answer_too(self):
         for name in ("stdin", "none.toml", "."):
@@ -356,7 +360,7 @@ class Launcher(unittest.TestCase):
     def test_help(self):
         ran = self.run_streams("--help")
         self.assertEqual((ran.returncode, ran.stderr), (0, b""))
-        for word in ("run FILE", "check FILE", "script", "README.md"):
+        for word in ("run FILE", "run --trace FILE", "check FILE", "script", "README.md"):
             self.assertIn(word, ran.stdout.decode())
         self.assertEqual(self.run_streams("--help", "me").returncode, 2)
 

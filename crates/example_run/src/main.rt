@@ -4,7 +4,8 @@
 use std::alloc::Global;
 use std::io::{self, Write};
 use std::sync::Wait;
-use ws_io::{MemSink, MemSource, Status};
+use std::thread::Threads;
+use ws_io::{MemSink, MemSource, OpenGate, Status};
 use ws_plan::{PlanRefused, read_plan};
 use ws_runner::run_nodes;
 use ws_value::NoMemory;
@@ -46,7 +47,7 @@ impl From<io::Error> for Failed {
 }
 
 /// Runs the pipeline that a text says, over bytes in memory.
-fn run_text<R: Wait>(
+fn run_text<R: Threads + Wait + Sync>(
     rt: &R,
     alloc: Global,
     text: &[u8],
@@ -54,7 +55,7 @@ fn run_text<R: Wait>(
     output: &mut MemSink,
 ) -> Result<Status, PlanRefused> {
     match read_plan(alloc, text) {
-        Ok(plan) => Ok(run_nodes(rt, alloc, &plan, input, output)),
+        Ok(plan) => Ok(run_nodes(rt, alloc, &plan, input, output, &OpenGate, false).status),
         Err(why) => Err(why),
     }
 }

@@ -3,3 +3,4 @@ pub mod Copying
 pub mod Loading
 pub mod Performing
 pub mod Running
+pub mod Telling

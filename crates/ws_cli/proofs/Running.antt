@@ -1,5 +1,5 @@
 -- What a run of a plan of a file comes to.
-use Rattle.std.proofs.Common.{◌≡◌, ◌+◌, ◌-◌, ◌<◌, ◌≤◌, ◌⊎◌, inl, inr, ℕ, ℤ, nat_abs, true, false, List, ◌++◌, length, length-append, append-nil, refl, sym, ◌∙◌, ap, subst, map, arith}
+use Rattle.std.proofs.Common.{◌≡◌, ◌+◌, ◌-◌, ◌<◌, ◌≤◌, ◌⊎◌, inl, inr, ℕ, ℤ, nat_abs, Bool, true, false, List, [], ◌++◌, length, length-append, append-nil, refl, sym, ◌∙◌, ap, subst, map, arith}
 use Rattle.std.specs.List.{concat}
 use Rattle.std.specs.Prelude.{Option, Some, None, Ok, Err}
 use Rattle.ws_io.specs.Faults.{Calm}
@@ -23,6 +23,8 @@ use Rattle.ws_flow.proofs.Told.{before_front, front_trans}
 use Rattle.ws_plan.specs.Answers.{planned_as}
 use Rattle.ws_plan.specs.Reading.{Planned}
 use Rattle.ws_node.specs.Ends.{Allows, Ends, IsAborted, ReadAs, ending_of, out_of}
+use Rattle.ws_runner.specs.declared.trace.EdgeTrace.{EdgeTrace}
+use Rattle.ws_runner.specs.Trace.{HasEdges}
 use Rattle.ws_cli.specs.Check.{Shelf}
 use Rattle.ws_cli.specs.Planned.{Loads, IsFineFor, IsUnaborted, PerformsRun, Ran, HadNone}
 use Rattle.ws_cli.proofs.Copying.{fine_not_bad, not_both}
@@ -156,13 +158,14 @@ Unaborted-by Aborted plan old new p q bytes e ok has u three =
 Unaborted-by _ plan old new p q bytes e ok has u three = elim three [ inl is ↦ cc | inr two ↦ elim two [ inl is ↦ cc | inr is ↦ cc ] ]
 
 -- a run of the plan of the file, and a file without a plan
-pub Performs-ran : {S K : Type 0} (status : Status) (name : List ℕ) (input input' : S) (output output' : K) (files files' : Shelf)
-    (old new : Moment) (p q : List ℕ → Type 0) (plan : Plan) → Loads (Ok plan) name files files' → Ends status plan old new p q
-    → PerformsRun status name input input' output output' files files' old new p q
-Performs-ran status name input input' output output' files files' old new p q plan loads e =
+pub Performs-ran : {S K : Type 0} (status : Status) (edges : List EdgeTrace) (trace : Bool) (name : List ℕ) (input input' : S) (output output' : K)
+    (files files' : Shelf) (old new : Moment) (p q : List ℕ → Type 0) (plan : Plan) → Loads (Ok plan) name files files'
+    → (e : Ends status plan old new p q) → HasEdges edges plan trace status e.taken e.gain
+    → PerformsRun status edges trace name input input' output output' files files' old new p q
+Performs-ran status edges trace name input input' output output' files files' old new p q plan loads e has_edges =
     let ok = accepted_file plan name files files' loads in
     record {
-      ends = Ran plan loads e;
+      ends = Ran plan loads e has_edges;
       complete = λ text other bytes has is left fine load read write.
           let same = same_plan plan name text files files' (planned_as other) loads has is in
           Whole status plan old new p q bytes e ok left (Fine-for-same plan other bytes same fine) read write;
@@ -174,12 +177,12 @@ Performs-ran status name input input' output output' files files' old new p q pl
       missing = λ lacks. absurd (no_file plan name files files' loads lacks);
     }
 
-pub Performs-unread : {S K : Type 0} (status : Status) (name : List ℕ) (input : S) (output : K) (files files' : Shelf)
-    (now : Moment) (p : List ℕ → Type 0) → Loads (Err status) name files files'
-    → PerformsRun status name input input output output files files' now now p p
-Performs-unread status name input output files files' now p loads =
+pub Performs-unread : {S K : Type 0} (status : Status) (edges : List EdgeTrace) (trace : Bool) (name : List ℕ) (input : S) (output : K)
+    (files files' : Shelf) (now : Moment) (p : List ℕ → Type 0) → Loads (Err status) name files files' → edges ≡ []
+    → PerformsRun status edges trace name input input output output files files' now now p p
+Performs-unread status edges trace name input output files files' now p loads none =
     record {
-      ends = HadNone loads refl refl;
+      ends = HadNone loads none refl refl;
       complete = λ text other bytes has is left fine load read write.
           inr (inr (Accepted-none status name text files files' (planned_as other) loads has is load));
       unaborted = λ text other bytes has is left fine few load read write.

@@ -1,4 +1,5 @@
 pub mod Check
 pub mod Commands
 pub mod Planned
+pub mod TraceText
 pub mod Words

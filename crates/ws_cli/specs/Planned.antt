@@ -1,5 +1,5 @@
 -- What is done with the plan of a pipeline file, and how its run may end.
-use Rattle.std.specs.Prelude.{◌≡◌, ◌⊎◌, ◌<◌, ◌≤◌, ℕ, ℤ, nat_abs, List, length, Option, Some, None, Result, Ok, Err}
+use Rattle.std.specs.Prelude.{◌≡◌, ◌⊎◌, ◌<◌, ◌≤◌, ℕ, ℤ, nat_abs, Bool, List, [], length, Option, Some, None, Result, Ok, Err}
 use Rattle.ws_io.specs.Faults.{Calm, Rose}
 use Rattle.ws_io.specs.Feed.{HasLeft}
 use Rattle.ws_io.specs.Files.{LoadsTold}
@@ -14,6 +14,8 @@ use Rattle.ws_flow.specs.Told.{Closed}
 use Rattle.ws_plan.specs.Answers.{planned_as}
 use Rattle.ws_plan.specs.Reading.{reading}
 use Rattle.ws_node.specs.Ends.{Ends, ending_of, out_of}
+use Rattle.ws_runner.specs.declared.trace.EdgeTrace.{EdgeTrace}
+use Rattle.ws_runner.specs.Trace.{HasEdges}
 use Rattle.ws_cli.specs.Check.{Shelf, HasText, LacksText, IsFirstRefusal, IsTooLong}
 
 -- a text is that of a plan, or refused by the number of its first refusal; memory may be wanting
@@ -37,13 +39,14 @@ Loads (Err (PlanIs n)) name files files' = IsTooLong n name files files' ⊎ Rea
 Loads (Err NoMemory) name files files' = files'.faults ≡ files.faults
 Loads result name files files' = ReadsFile result name files files'
 
--- a run of the plan of a file, or none
-pub data RunEnds {S K : Type 0} (status : Status) (name : List ℕ) (input input' : S) (output output' : K) (files files' : Shelf) (old new : Moment)
-    (got got' : List ℕ → Type 0) : Type 0 where
-  Ran : (plan : Plan) → Loads (Ok plan) name files files' → Ends status plan old new got got'
-      → RunEnds status name input input' output output' files files' old new got got'
-  HadNone : Loads (Err status) name files files' → input' ≡ input → output' ≡ output
-      → RunEnds status name input input' output output' files files' old new got got'
+-- a run of the plan of a file, with the edges that it tells where it is traced; or none, and no edges
+pub data RunEnds {S K : Type 0} (status : Status) (edges : List EdgeTrace) (trace : Bool) (name : List ℕ) (input input' : S) (output output' : K)
+    (files files' : Shelf) (old new : Moment) (got got' : List ℕ → Type 0) : Type 0 where
+  Ran : (plan : Plan) → Loads (Ok plan) name files files' → (ends : Ends status plan old new got got')
+      → HasEdges edges plan trace status ends.taken ends.gain
+      → RunEnds status edges trace name input input' output output' files files' old new got got'
+  HadNone : Loads (Err status) name files files' → edges ≡ [] → input' ≡ input → output' ≡ output
+      → RunEnds status edges trace name input input' output output' files files' old new got got'
 
 -- an input that a plan takes whole: it isn't too long, and each stage ends fine over it
 pub record IsFineFor (plan : Plan) (input : List ℕ) : Type 0 where
@@ -55,11 +58,11 @@ abbrev pub IsUnaborted : Option ℤ → ℕ → Type 0
 IsUnaborted None n = Unit {0}
 IsUnaborted (Some after) n = n < nat_abs after
 
--- what a run of the file of this name does, with the status that it ended with
-pub record PerformsRun {S K : Type 0} (status : Status) (name : List ℕ) (input input' : S) (output output' : K) (files files' : Shelf) (old new : Moment)
-    (got got' : List ℕ → Type 0) : Type 0 where
+-- what a run of the file of this name does, with the status that it ended with and the edges that it tells
+pub record PerformsRun {S K : Type 0} (status : Status) (edges : List EdgeTrace) (trace : Bool) (name : List ℕ) (input input' : S) (output output' : K)
+    (files files' : Shelf) (old new : Moment) (got got' : List ℕ → Type 0) : Type 0 where
   -- what it may end with
-  pub ends : RunEnds status name input input' output output' files files' old new got got'
+  pub ends : RunEnds status edges trace name input input' output output' files files' old new got got'
   -- where nothing fails, a plan runs to the end of an input that it takes whole, or is aborted where it says so, or memory can't be had
   pub complete : (text : List ℕ) (plan : Plan) (bytes : List ℕ) → HasText files name text → reading text ≡ Ok (planned_as plan)
       → HasLeft old.feed bytes → IsFineFor plan bytes

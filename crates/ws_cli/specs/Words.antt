@@ -10,6 +10,10 @@ pub record IsRunOf (words : List (List ℕ)) (name : List ℕ) : Type 0 where
   pub are : words ≡ codes "run" ∷ name ∷ []
   pub named : name ≢ codes "--trace"
 
+-- `run`, the word that asks for a trace, and the name of a pipeline file
+abbrev pub IsTraceOf : List (List ℕ) → List ℕ → Type 0
+IsTraceOf words name = words ≡ codes "run" ∷ codes "--trace" ∷ name ∷ []
+
 -- `script`
 abbrev pub IsScript : List (List ℕ) → Type 0
 IsScript words = words ≡ codes "script" ∷ []
@@ -22,9 +26,12 @@ IsCheck words name = words ≡ codes "check" ∷ name ∷ []
 abbrev pub IsNoCheck : List (List ℕ) → Type 0
 IsNoCheck words = (name : List ℕ) → IsCheck words name → ⊥
 
--- and none behind `run`
+-- and none behind `run`, nor behind the word that asks for a trace
 abbrev pub IsNoRunOf : List (List ℕ) → Type 0
 IsNoRunOf words = (name : List ℕ) → IsRunOf words name → ⊥
 
+abbrev pub IsNoTraceOf : List (List ℕ) → Type 0
+IsNoTraceOf words = (name : List ℕ) → IsTraceOf words name → ⊥
+
 abbrev pub NamesNoFile : List (List ℕ) → Type 0
-NamesNoFile words = IsNoCheck words × IsNoRunOf words
+NamesNoFile words = IsNoCheck words × IsNoRunOf words × IsNoTraceOf words

@@ -6,6 +6,7 @@ mod command;
 mod file;
 mod program;
 mod run;
+mod trace;
 
 pub use check::run_check;
 pub use command::top;

@@ -37,9 +37,17 @@ fn end<E: Sink>(status: Status, notes: &mut E) -> ExitCode
     ExitCode::from(status.number())
 }
 
-/// Does what the arguments say, and ends with the number of the status, whose text it writes on the notes. Arguments
-/// that aren't UTF-8 end as a wrong usage does. The gate isn't used yet.
-pub fn process<R: Threads + Wait, A: Arguments, F: Files, S: Source, K: Sink, E: Sink, G: Gate>(
+/// Does what the arguments say, and ends with the number of the status. On the notes it writes the edges of a traced
+/// run, and then the text of the status. Arguments that aren't UTF-8 end as a wrong usage does.
+pub fn process<
+    R: Threads + Wait + Sync,
+    A: Arguments,
+    F: Files,
+    S: Source,
+    K: Sink,
+    E: Sink,
+    G: Gate,
+>(
     rt: &R,
     alloc: Global,
     arguments: &A,

@@ -1,12 +1,10 @@
 //! The commands, and the program whole.
 ghost use Rattle.std.specs.Prelude.{◌≡◌};
 ghost use Rattle.std.specs.Process.{exit_status};
-ghost use Rattle.ws_io.specs.Faults.{Calm};
-ghost use Rattle.ws_io.specs.Gain.{Gains, KeepsTold};
+ghost use Rattle.ws_io.specs.Gain.{KeepsTold};
 ghost use Rattle.ws_io.specs.Moment.{moment};
-ghost use Rattle.ws_io.specs.Notes.{text_of};
 ghost use Rattle.ws_cli.specs.Check.{PerformsCheck, shelf};
-ghost use Rattle.ws_cli.specs.Commands.{EndsWith, Performs};
+ghost use Rattle.ws_cli.specs.Commands.{EndsWith, PerformsNoted};
 ghost use Rattle.ws_cli.specs.Words.{NamesNoFile};
 
 use std::alloc::Global;
@@ -34,7 +32,7 @@ pub fn run_check<F: Files, K: Sink>(
 }
 
 /// Does what the words after the program's name say.
-pub fn top<R: Threads + Wait, F: Files, S: Source, K: Sink, E: Sink, G: Gate>(
+pub fn top<R: Threads + Wait + Sync, F: Files, S: Source, K: Sink, E: Sink, G: Gate>(
     rt: &R,
     alloc: Global,
     words: &[Text],
@@ -44,22 +42,30 @@ pub fn top<R: Threads + Wait, F: Files, S: Source, K: Sink, E: Sink, G: Gate>(
     notes: &mut E,
     gate: &G,
 ) -> Status
-    ensures performs { Performs words.now result files.old files.new input.old input.new output.old output.new
+    ensures performs { PerformsNoted words.now result
+        files.old files.new input.old input.new output.old output.new
         (shelf (F.texts files.old) (F.faults files.old)) (shelf (F.texts files.new) (F.faults files.new))
         (moment (S.faults input.old) (S.feed input.old) (K.faults output.old) (K.finished output.old))
         (moment (S.faults input.new) (S.feed input.new) (K.faults output.new) (K.finished output.new))
-        (K.got output.old) (K.got output.new) }
+        (K.got output.old) (K.got output.new)
+        (E.faults notes.old) (E.faults notes.new) (E.got notes.old) (E.got notes.new) }
+    ensures notes_end { KeepsTold (E.finished notes.old) (E.finished notes.new) }
     ensures files { NamesNoFile words.now → files.new ≡ files.old }
     ensures texts { F.texts files.new ≡ F.texts files.old }
-    ensures notes { Calm (E.faults notes.old) (E.faults notes.new)
-        → Gains (E.got notes.old) (E.got notes.new) (text_of result) }
-    ensures notes_end { KeepsTold (E.finished notes.old) (E.finished notes.new) }
 {
     ws_cli::top(rt, alloc, words, files, input, output, notes, gate)
 }
 
 /// Does what the arguments say, and ends with the number of the status.
-pub fn process<R: Threads + Wait, A: Arguments, F: Files, S: Source, K: Sink, E: Sink, G: Gate>(
+pub fn process<
+    R: Threads + Wait + Sync,
+    A: Arguments,
+    F: Files,
+    S: Source,
+    K: Sink,
+    E: Sink,
+    G: Gate,
+>(
     rt: &R,
     alloc: Global,
     arguments: &A,
