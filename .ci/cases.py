@@ -1,4 +1,5 @@
 """The cases of cases/ and the pipelines of examples/, of which cases/README.md tells."""
+import re
 import tempfile
 from typing import Callable, NamedTuple
 
@@ -12,6 +13,8 @@ PIECES = [1, 2, 3, 7, 4096]
 PIECES_OF_A_SCRIPT = [7]
 # What is there to be read where nothing is to be read.
 UNREAD = b"abc\n"
+# The line of what went up an edge.
+UP = re.compile(rb"edge (\d+) up(?: pull)*(?: error)? taken \d+\n")
 
 
 class Case(NamedTuple):
@@ -103,6 +106,30 @@ def pipeline(path):
     return Case(str(path.relative_to(ROOT)), beside(path, ".in", ".out", ".err"), differs)
 
 
+def edges(told, down):
+    """What differs of the lines of the edges, and the text behind them. When a node asked for more is up to the schedule,
+    so of what went up an edge the form alone is looked at."""
+    lines = told.splitlines(keepends=True)
+    found, text = lines[: 2 * len(down)], b"".join(lines[2 * len(down) :])
+    ups = [UP.fullmatch(line) for line in found[1::2]]
+    if found[::2] == down and [int(up[1]) for up in ups if up] == list(range(1, len(down) + 1)):
+        return None, text
+    return f"of the edges {b''.join(found)!r} is told, and what went down is to be {b''.join(down)!r}", text
+
+
+def traced(path):
+    """A traced run of a pipeline file over its input. Without one nothing is to be read."""
+    given, down = path.with_suffix(".in"), path.with_suffix(".down")
+
+    def differs():
+        done, count = call([NAME, b"run", b"--trace", path], given.read_bytes() if given.exists() else UNREAD)
+        of_edges, text = edges(done.told, down.read_bytes().splitlines(keepends=True) if down.exists() else [])
+        unread = f"{count} bytes of the input were read" if count and not given.exists() else None
+        return of_edges or done._replace(told=text).differs(wanted(path)) or unread
+
+    return Case(str(path.relative_to(ROOT)), beside(path, ".in", ".out", ".err", ".down"), differs)
+
+
 def cases_of(folder, pattern, make):
     paths = sorted(folder.glob(pattern))
     if not paths:
@@ -118,6 +145,7 @@ def all_cases():
         *sum(cases_of(CASES / "words", "*.lines", lambda path: lines(path, line_of_words)), []),
         *cases_of(CASES / "plans", "*/*.toml", plan),
         *cases_of(CASES / "pipelines", "*/*.toml", pipeline),
+        *cases_of(CASES / "traces", "*.toml", traced),
         *cases_of(EXAMPLES, "*/*.toml", pipeline),
     ]
 

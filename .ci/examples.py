@@ -13,6 +13,7 @@ from cases import NotWanted, all_cases, strays
 from documents import all_documents, outcomes
 from made_cases import made_cases
 from program import PROGRAM
+from worker_cases import worker_cases
 
 
 def outcome(case):
@@ -29,7 +30,7 @@ def main():
         print(f"examples: {PROGRAM} isn't built")
         return 1
     try:
-        cases = [*all_cases(), *made_cases()]
+        cases = [*all_cases(), *made_cases(), *worker_cases()]
     except NotWanted as why:
         print(f"examples: {why}")
         return 1

@@ -73,7 +73,7 @@ impl Write for SlowWriter<'_> {
 }
 
 /// How a copy ends of which so many first reads, writes and flushes are interrupted, and how many bytes came out.
-fn copied<R: Threads + Wait>(
+fn copied<R: Threads + Wait + Sync>(
     rt: &R,
     alloc: Global,
     reads: u32,

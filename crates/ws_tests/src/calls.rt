@@ -29,7 +29,7 @@ struct Case<'a> {
 }
 
 /// Whether all that must come of a call comes of it, in notes of five bytes.
-fn holds<R: Threads + Wait>(rt: &R, alloc: Global, case: &Case) -> Result<bool, NoMemory> {
+fn holds<R: Threads + Wait + Sync>(rt: &R, alloc: Global, case: &Case) -> Result<bool, NoMemory> {
     let mut input = MemSource::make(
         alloc,
         case.input,
@@ -208,7 +208,7 @@ const STEP: Case = Case {
     ..SCRIPT
 };
 
-static CASES: [Case; 33] = [
+static CASES: [Case; 34] = [
     COPY,
     Case {
         input: b"",
@@ -295,6 +295,18 @@ static CASES: [Case; 33] = [
             ..RUN
         },
         ..PIPELINE
+    },
+    // the notes of a traced run, within the line of what went down the first edge
+    Case {
+        said: Said {
+            words: &[b"run", b"--trace", b"p"],
+            file: b"version = 1\nworkers = 1\n[[stage]]\nkind = \"hex\"\n",
+            ..RUN
+        },
+        failed_notes: &[6],
+        written: b"616263",
+        told: b"edge 1 down c3",
+        ..LIMIT
     },
     // the most bytes of input
     Case {
@@ -420,7 +432,7 @@ static FAILED_BLOCKS: [Case; 4] = [
 ];
 
 /// A text of steps whose seventeenth write fails has its first 65,536 bytes written by then.
-fn are_parts_written<R: Threads + Wait>(rt: &R, alloc: Global) -> Result<bool, NoMemory> {
+fn are_parts_written<R: Threads + Wait + Sync>(rt: &R, alloc: Global) -> Result<bool, NoMemory> {
     let mut text = Vec::with_capacity(alloc, 16)?;
     for _ in 0..9000 {
         text.extend_from_slice(b"step\n")?;
@@ -437,7 +449,7 @@ fn are_parts_written<R: Threads + Wait>(rt: &R, alloc: Global) -> Result<bool, N
 }
 
 /// How a copy ends between a source and a sink that don't fail.
-fn steady_copy<R: Threads + Wait>(rt: &R, alloc: Global) -> Result<Status, NoMemory> {
+fn steady_copy<R: Threads + Wait + Sync>(rt: &R, alloc: Global) -> Result<Status, NoMemory> {
     let mut input = SteadySource::make(alloc, b"abc", &[2])?;
     let mut output = SteadySink::make(alloc, &[2])?;
     let mut notes = SteadySink::make(alloc, &[1])?;

@@ -11,8 +11,16 @@ mod held;
 #[cfg(test)]
 mod memory;
 #[cfg(test)]
+mod orders;
+#[cfg(test)]
 mod paces;
 #[cfg(test)]
 mod ports;
 #[cfg(test)]
+mod shared;
+#[cfg(test)]
+mod traced;
+#[cfg(test)]
 mod whole;
+#[cfg(test)]
+mod workers;

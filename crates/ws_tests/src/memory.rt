@@ -39,7 +39,7 @@ static CALLS: [(Said, &[u8], &[u8]); 3] = [
 ];
 
 /// Whether a call writes this, or a first part of it where memory can't be had.
-fn writes<R: Threads + Wait>(
+fn writes<R: Threads + Wait + Sync>(
     rt: &R,
     alloc: Global,
     said: Said,

@@ -121,7 +121,11 @@ impl Sink for PacedSink<'_> {
 }
 
 /// How a run ends, and how many bytes came out.
-fn paced<R: Threads + Wait>(rt: &R, alloc: Global, pace: &Pace) -> Result<(Status, u64), NoMemory> {
+fn paced<R: Threads + Wait + Sync>(
+    rt: &R,
+    alloc: Global,
+    pace: &Pace,
+) -> Result<(Status, u64), NoMemory> {
     let written = Cell::new(0);
     let mut input = PacedSource {
         pace,

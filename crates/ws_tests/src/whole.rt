@@ -3,7 +3,7 @@ use std::alloc::Global;
 use std::sync::Wait;
 use std::thread::Threads;
 use ws_cli::top;
-use ws_io::{MemFiles, OpenGate, Sink, Source, Status};
+use ws_io::{Gate, MemFiles, OpenGate, Sink, Source, Status};
 use ws_value::{NoMemory, Text};
 
 /// What is said to the program, the text of the file `p`, and the loads that fail.
@@ -15,7 +15,7 @@ pub(crate) struct Said<'a> {
 }
 
 /// How the program ends.
-pub(crate) fn perform<R: Threads + Wait, S: Source, K: Sink, E: Sink>(
+pub(crate) fn perform<R: Threads + Wait + Sync, S: Source, K: Sink, E: Sink>(
     rt: &R,
     alloc: Global,
     said: Said,
@@ -23,13 +23,24 @@ pub(crate) fn perform<R: Threads + Wait, S: Source, K: Sink, E: Sink>(
     output: &mut K,
     notes: &mut E,
 ) -> Result<Status, NoMemory> {
+    perform_at(rt, alloc, said, input, output, notes, &OpenGate)
+}
+
+/// The same, with a gate that its workers enter.
+pub(crate) fn perform_at<R: Threads + Wait + Sync, S: Source, K: Sink, E: Sink, G: Gate>(
+    rt: &R,
+    alloc: Global,
+    said: Said,
+    input: &mut S,
+    output: &mut K,
+    notes: &mut E,
+    gate: &G,
+) -> Result<Status, NoMemory> {
     let mut words = Vec::new(alloc);
     for word in said.words {
         words.push(Text::of(alloc, word)?)?;
     }
     let mut files = MemFiles::make(alloc, said.failed_loads)?;
     files.add(&Text::of(alloc, b"p")?, said.file)?;
-    Ok(top(
-        rt, alloc, &words, &mut files, input, output, notes, &OpenGate,
-    ))
+    Ok(top(rt, alloc, &words, &mut files, input, output, notes, gate))
 }
