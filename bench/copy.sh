@@ -9,9 +9,8 @@ work=$(mktemp -d)
 trap 'rm -rf "$work"' EXIT
 mebibytes=${1:-256}
 head -c "$((mebibytes * 1048576))" /dev/urandom >"$work/in"
-printf 'x' | STREAMS_PROVED=1 "$root/streams" run >/dev/null
-program=$root/crates/streams/out/streams
 . "$root/bench/measure.sh"
+program=$(built)
 if command -v node >/dev/null 2>&1; then has_node=yes; else has_node=; fi
 
 copy() {

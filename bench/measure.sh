@@ -1,15 +1,52 @@
 # For the benches that read `$work/in`. What is compared takes turns, since a machine may be slower for a while: `once` measures one
 # run, and `show` tells what a name had in all of them.
 
-# Runs the words behind the name, with the output in `$work/NAME`, and notes the milliseconds by the wall clock and the peak memory.
+# Runs the words behind the name, with the output in `$work/NAME`, and notes the milliseconds by the wall clock, those of processor
+# time, and the peak memory.
 once() {
     name=$1
     shift
     rm -f "$work/$name"
     start=$(date +%s%N)
-    /usr/bin/time -f %M -o "$work/time" "$@" <"$work/in" >"$work/$name"
+    /usr/bin/time -f '%M %U %S' -o "$work/time" "$@" <"$work/in" >"$work/$name"
     echo "$((($(date +%s%N) - start) / 1000000))" >>"$work/$name.ms"
-    cat "$work/time" >>"$work/$name.kib"
+    awk '{ printf "%d\n", ($2 + $3) * 1000 }' "$work/time" >>"$work/$name.cpu"
+    awk '{ print $1 }' "$work/time" >>"$work/$name.kib"
+}
+
+# So many MiB of text in lines of about 80 bytes.
+text_lines() {
+    awk -v bytes="$(($1 * 1048576))" 'BEGIN {
+        srand(7)
+        for (line = 1; done < bytes; line += 1) {
+            text = sprintf("2026-11-28T09:%02d:%02dZ host-%d GET /item/%d 200", line / 60 % 60, line % 60, line % 16, line)
+            for (pad = 30 + int(rand() * 20); length(text) < 45 + pad; ) text = text " ."
+            print text; done += length(text) + 1
+        }
+    }' | head -c "$(($1 * 1048576))"
+}
+
+# The plan of stages on so many workers, on each as many as on the others or one more. A stage is a word, KIND or KIND:KEY=VALUE.
+plan() {
+    count=$1
+    shift
+    printf 'version = 1\nworkers = %d\n' "$count"
+    place=0
+    for stage in "$@"; do
+        printf '[[stage]]\nkind = "%s"\n' "${stage%%:*}"
+        case $stage in
+        *:n=*) echo "n = ${stage#*=}" ;;
+        *:*) echo "${stage#*:}" | sed 's/=\(.*\)/ = "\1"/' ;;
+        esac
+        if [ "$count" -gt 0 ]; then echo "worker = $((place * count / $# + 1))"; fi
+        place=$((place + 1))
+    done
+}
+
+# The program, built and proved where that is due.
+built() {
+    printf 'x' | STREAMS_PROVED=1 "$root/streams" run >/dev/null
+    echo "$root/crates/streams/out/streams"
 }
 
 # The middle one of the numbers noted in this file.
@@ -24,7 +61,7 @@ least() {
 
 # Forgets what was noted.
 forget() {
-    rm -f "$work"/*.ms "$work"/*.kib
+    rm -f "$work"/*.ms "$work"/*.cpu "$work"/*.kib
 }
 
 # The seconds of these milliseconds.

@@ -11,28 +11,11 @@ work=$(mktemp -d)
 trap 'rm -rf "$work"' EXIT
 mebibytes=${1:-64}
 turns=${2:-5}
-awk -v bytes="$((mebibytes * 1048576))" 'BEGIN {
-    srand(7)
-    for (line = 1; done < bytes; line += 1) {
-        text = sprintf("2026-11-28T09:%02d:%02dZ host-%d GET /item/%d 200", line / 60 % 60, line % 60, line % 16, line)
-        for (pad = 30 + int(rand() * 20); length(text) < 45 + pad; ) text = text " ."
-        print text; done += length(text) + 1
-    }
-}' | head -c "$((mebibytes * 1048576))" >"$work/in"
-lines=$(wc -l <"$work/in")
-printf 'x' | STREAMS_PROVED=1 "$root/streams" run >/dev/null
-program=$root/crates/streams/out/streams
 . "$root/bench/measure.sh"
+text_lines "$mebibytes" >"$work/in"
+lines=$(wc -l <"$work/in")
+program=$(built)
 if command -v node >/dev/null 2>&1; then has_node=yes; else has_node=; fi
-
-# The plan of these stages, one a word: KIND or KIND:KEY=VALUE.
-plan() {
-    echo 'version = 1'
-    for stage in "$@"; do
-        printf '[[stage]]\nkind = "%s"\n' "${stage%%:*}"
-        case $stage in *:*) echo "${stage#*:}" | sed 's/=\(.*\)/ = "\1"/' ;; esac
-    done
-}
 
 show() {
     middle=$(median "$work/$1.ms")
@@ -54,7 +37,7 @@ run() {
     [ $# -eq 0 ] || shift
     # each stage is a word
     # shellcheck disable=SC2086
-    plan $stages >"$work/plan.toml"
+    plan 0 $stages >"$work/plan.toml"
     echo "$stages"
     forget
     while [ "$left" -gt 0 ]; do

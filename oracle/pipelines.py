@@ -14,6 +14,7 @@ import time
 from collections import Counter
 from pathlib import Path
 from random import Random
+from threading import Event, Timer
 
 from pipelines_made import LENGTHS, random_file, random_input
 from plans import Plan, Refused, read_plan, text_of_plan
@@ -24,8 +25,9 @@ LONGEST_RUN = 60
 MOST_BEHIND_ABORT = 2 ** 25
 
 
-def outcome_of(words: list[str], random: Random, text: bytes) -> tuple[int, bytes, str]:
-    """Status, output and notes of the program. Some inputs come from a file, and some by a pipe in pieces."""
+def outcome_of(words: list[str], random: Random, text: bytes, seconds: float = LONGEST_RUN) -> tuple[int, bytes, str]:
+    """Status, output and notes of the program. Some inputs come from a file, and some by a pipe in pieces. The status
+    is -1 where it doesn't end in so many seconds."""
     with (tempfile.TemporaryFile() as given, tempfile.TemporaryFile() as output,
           tempfile.TemporaryFile() as notes):
         in_pieces = random.random() < 0.3
@@ -33,13 +35,17 @@ def outcome_of(words: list[str], random: Random, text: bytes) -> tuple[int, byte
         given.seek(0)
         process = subprocess.Popen(words, stdin=subprocess.PIPE if in_pieces else given, stdout=output,
                                    stderr=notes, bufsize=0)
+        too_long = Event()
+        watch = Timer(seconds, lambda: (too_long.set(), process.kill()))
+        watch.start()
         try:
             if in_pieces:
                 feed(random, process, text)
-            status = process.wait(LONGEST_RUN)
-        except subprocess.TimeoutExpired:
-            process.kill()
-            return -1, b"", f"no end in {LONGEST_RUN} seconds\n"
+            status = process.wait()
+        finally:
+            watch.cancel()
+        if too_long.is_set():
+            return -1, b"", f"no end in {seconds:g} seconds\n"
         output.seek(0)
         notes.seek(0)
         return status, output.read(), notes.read().decode("latin-1")

@@ -55,9 +55,8 @@ def stage_keys(random: Random, kind: str) -> dict[str, str]:
     return keys
 
 
-def with_workers(random: Random, keys: dict[str, str], stages: list[dict[str, str]]) -> None:
-    """Places the stages on workers, each of which has one."""
-    workers = min(random.choice((0, 0, 1, 2, 3, 8)), len(stages))
+def with_workers(random: Random, keys: dict[str, str], stages: list[dict[str, str]], workers: int) -> None:
+    """Places the stages on so many workers, each of which has one."""
     if workers == 0:
         return
     keys["workers"] = integer(random, workers)
@@ -99,19 +98,30 @@ def file_of(random: Random, keys: dict[str, str], stages: list[dict[str, str]]) 
     return text.encode()
 
 
-def random_file(random: Random, most_input: int) -> bytes:
-    """A pipeline file. Of ten, two or three are refused."""
-    stages = [stage_keys(random, kind) for kind in random_kinds(random)]
-    keys = {"version": "1"}
-    with_workers(random, keys, stages)
+def with_ends(random: Random, keys: dict[str, str], most_input: int) -> None:
+    """Has some runs end before all that comes out of an input of this length is written."""
     if random.random() < 0.2:
         keys["abort_after"] = integer(random, random.choice((1, 5, 100, 5_000, most_input + 1)))
     if random.random() < 0.2:
         keys["max_input"] = integer(random, max(0, most_input + random.choice((-5000, -1, 0, 1))))
+
+
+def random_file(random: Random, most_input: int) -> bytes:
+    """A pipeline file. Of ten, two or three are refused."""
+    stages = [stage_keys(random, kind) for kind in random_kinds(random)]
+    keys = {"version": "1"}
+    with_workers(random, keys, stages, min(random.choice((0, 0, 1, 2, 3, 8)), len(stages)))
+    with_ends(random, keys, most_input)
     if random.random() < 0.2:
         for _ in range(random.choice((1, 1, 1, 2))):
             made_odd(random, keys, stages)
     return file_of(random, keys, stages)
+
+
+def without_workers(keys: dict[str, str], stages: list[dict[str, str]]) -> tuple[dict, list[dict]]:
+    """The same keys and stages on no worker."""
+    stages = [{key: value for key, value in stage.items() if key != "worker"} for stage in stages]
+    return {key: value for key, value in keys.items() if key != "workers"}, stages
 
 
 def random_input(random: Random, plan: Plan | None, length: int) -> bytes:
