@@ -54,7 +54,7 @@ pub trait Sink {
 
 /// A place at which a worker may be held. No contract says when.
 pub trait Gate: Sync {
-    /// Worker `worker` is about to take its turn `turn`. No command has workers yet, so none calls it.
+    /// Worker `worker` is about to take its turn `turn`, both from 1. It is called on the thread that drives its node.
     fn enter(&self, worker: u32, turn: u64);
 }
 
