@@ -1,9 +1,9 @@
-//! Stages that cut their input into chunks wherever it was cut before: `lines` a line at a time, `fixed` and `unframe`
-//! byte by byte.
+//! Stages that cut their input into chunks wherever it was cut before: `lines` a line at a time, `fixed` a block at a
+//! time, `unframe` byte by byte.
 ghost use Rattle.std.specs.Prelude.{◌≡◌, ◌∷◌, ◌++◌, [], ◌+◌, ◌<◌, ◌≤◌, ◌^◌, OnOk, length, drop};
 ghost use Rattle.ws_flow.specs.declared.plan.Ending.TheVariants.{Fine};
 ghost use Rattle.ws_flow.specs.Machines.{each_byte};
-ghost use Rattle.ws_flow.specs.Stages.{line_byte};
+ghost use Rattle.ws_flow.specs.Stages.{block_byte, line_byte};
 ghost use Rattle.ws_stages.specs.Cuts.{HasNoFeed, handing, handing_some, kept_of, seen, with_bytes, with_chunks};
 
 use memchr::memchr;
@@ -225,6 +225,29 @@ pub fn cut_lines(stage: &Lines, cut: &mut Cut, bytes: &[u8]) -> Result<(), NoMem
         if let Ending::Bad { .. } = cut.ending {
             return Ok(());
         }
+        left = after;
+    }
+    Ok(())
+}
+
+/// Cuts these bytes into blocks too: those before the last byte of a block go over at once.
+pub fn cut_blocks(stage: &Blocks, cut: &mut Cut, bytes: &[u8]) -> Result<(), NoMemory>
+    requires room { cut.old.bytes + length bytes.now < 2 ^ 128 }
+    requires fine { cut.old.ending ≡ Fine }
+    ensures seen { OnOk result (seen cut.new
+        ≡ with_chunks cut.old.chunks.items (each_byte (block_byte stage.now.0) (kept_of cut.old) bytes.now)) }
+    ensures bytes { OnOk result (cut.new.bytes ≤ cut.old.bytes + length bytes.now) }
+    ensures count { OnOk result (cut.new.count ≡ cut.old.count) }
+{
+    let mut left = bytes;
+    while !left.is_empty() {
+        let room = stage.0.saturating_sub(1).saturating_sub(cut.rest.len());
+        let (some, rest) = left.split_at(room.min(left.len()));
+        cut.keep(some)?;
+        let Some((byte, after)) = rest.split_first() else {
+            return Ok(());
+        };
+        stage.step(cut, *byte)?;
         left = after;
     }
     Ok(())

@@ -5,7 +5,7 @@ ghost use Rattle.ws_flow.specs.Plans.{is_known, may_see};
 ghost use Rattle.ws_flow.specs.Stages.{HasLength, RestFits, form, is_in_range, machine};
 ghost use Rattle.ws_stages.specs.Cuts.{CanTake, kept_of, seen};
 
-use crate::cut::{Blocks, Cut, Frames, Lines, cut_bytes, cut_lines};
+use crate::cut::{Blocks, Cut, Frames, Lines, cut_blocks, cut_bytes, cut_lines};
 use crate::text::{framed, from_hex, in_hex, masked, numbered};
 use std::alloc::Global;
 use ws_flow::{Ending, Stage};
@@ -84,7 +84,7 @@ pub(crate) fn take(stage: &Stage, cut: &mut Cut, chunk: &[u8]) -> Result<(), NoM
 {
     match stage {
         Stage::Lines { max } => cut_lines(&Lines(max.unsigned_abs() as usize), cut, chunk),
-        Stage::Fixed { n } => cut_bytes(&Blocks(n.unsigned_abs() as usize), cut, chunk),
+        Stage::Fixed { n } => cut_blocks(&Blocks(n.unsigned_abs() as usize), cut, chunk),
         Stage::Unframe { max } => cut_bytes(&Frames(max.unsigned_abs() as usize), cut, chunk),
         Stage::Unhex => {
             let text = from_hex(cut, chunk)?;
