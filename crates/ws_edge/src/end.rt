@@ -144,6 +144,13 @@ impl End {
         self.waiting.is_empty()
     }
 
+    /// How many messages were posted.
+    pub fn posted(&self) -> u64
+        ensures { result ≡ length self.now.to.sent }
+    {
+        self.count - self.waiting.len() as u64
+    }
+
     /// Takes the next message. There is none where this call's look found none in the row.
     pub fn take(&mut self) -> Option<Message>
         ensures to { self.new.to ≡ self.old.to }
