@@ -15,11 +15,12 @@ use Rattle.ws_node.specs.declared.node.Core.{Core}
 use Rattle.ws_node.specs.declared.node.Entrance.{Entrance}
 use Rattle.ws_node.specs.declared.node.Exit.{Exit}
 use Rattle.ws_node.specs.declared.node.Node.{Node}
+use Rattle.ws_node.specs.declared.turn.Turn.TheVariants.{Ended, Worked}
 use Rattle.ws_node.specs.Edges.{posts_at, PostsBoth, TellsBoth, NoneHeld, NoEnd, HasStopped, NotLive, TakesAbove, NotAbove, NoMore, NoneAbove, TookAbove, TakesBelow, NotBelow, NoneBelow, TookBelow, takes_more}
 use Rattle.ws_node.specs.Moves.{Asks, Performed, Refused}
-use Rattle.ws_node.specs.Node.{is_busy, port_below, received_at, sent_at}
+use Rattle.ws_node.specs.Node.{is_busy, is_over, port_below, received_at, sent_at}
 use Rattle.ws_node.specs.Past.{Driven}
-use Rattle.ws_node.specs.Turns.{GivesHeard, PostsHeard, GoesBy, IsBegun, JobFirst, EventFirst, SameEnds, TookOne, PostedOne, IsQuietEnd, AreQuiet, HasDone, SentAbove, SentBelow, Begun}
+use Rattle.ws_node.specs.Turns.{GivesHeard, PostsHeard, GoesBy, IsBegun, JobFirst, EventFirst, SameEnds, TookOne, PostedOne, IsQuietEnd, AreQuiet, HasDone, SentAbove, SentBelow, Begun, TurnIs}
 use Rattle.ws_node.specs.Went.{ComesIn, ByInput, ByEdge, GoesOut, ToOutput, ToEdge, Went}
 use Rattle.ws_node.proofs.Giving.{gives-post, gives-then, posts-give, takes-above-give, takes-below-give, tells-give}
 use Rattle.ws_node.proofs.Going.{Stays, went-then}
@@ -214,6 +215,43 @@ done a b t u true up down busy d m n p q on s is begun some = done-posted a b t 
 done a b t u false true down busy d m n p q on s is begun some = done-above a b t u false d m n p q on down s
 done a b t u false false true busy d m n p q on s is begun some = done-below a b t u false d m n p q on false s
 done a b t u false false false busy d m n p q on s is begun some = done-begun a b t u false d m n p q on s (begun (sym is ∙ some))
+
+-- A turn that ends once something was posted
+
+module _ (a b : Node) (driven : Driven a) (goes : a.core.stopped ≡ None) (post : PostsBoth true a b) where
+  module _ (m : Moment) (p : List ℕ → Type 0) where
+    only : Handled driven.shape a b m m p p
+    only = posts driven.shape driven.past a b true m p goes driven.since post
+
+    pub posted-only-went : Went a b m m p p
+    posted-only-went = only.went
+
+  pub posted-only-driven : Driven b
+  posted-only-driven =
+      let m : Moment = moment 0 None 0 None in
+      let p : List ℕ → Type 0 = λ xs. Unit {0} in
+      driven-handled driven.shape driven.past a b m m p p driven.since (only m p)
+
+  pub posted-only-gives : PostsHeard a b
+  posted-only-gives =
+      let m : Moment = moment 0 None 0 None in
+      let p : List ℕ → Type 0 = λ xs. Unit {0} in
+      gives-post a b m m p p (posted-only-went m p) (posts-give true a b post)
+
+  pub posted-only-goes : b.core.stopped ≡ None
+  posted-only-goes = ap (λ (n : Node). n.core.stopped) post.is ∙ goes
+
+  pub posted-only-done : HasDone a b
+  posted-only-done = by post.above post.below post.posted_is post.posts_above post.posts_below where
+    by : (x y : Bool) → true ≡ (x || y) → posts_at x a.entrance.above b.entrance.above → posts_at y a.exit.below b.exit.below → HasDone a b
+    by true y e h k = SentAbove (PostedOne (posts-more a.entrance.above b.entrance.above h))
+    by false true e h k = SentBelow (PostedOne (posts-more a.exit.below b.exit.below k))
+    by false false e h k = absurd (cc)
+
+  -- how it ended
+  pub posted-only-turn : (over : Bool) → over ≡ is_over b → TurnIs (if over then Ended else Worked) a b
+  posted-only-turn true e = (posted-only-goes, sym e)
+  posted-only-turn false e = (posted-only-goes, sym e, posted-only-done)
 
 -- where nothing was done
 

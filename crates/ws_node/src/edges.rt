@@ -1,11 +1,11 @@
 //! What a node does at the ends of its edges: it posts what waits, takes at most one message from each end, and hands
 //! it to its realm; what a port of its realm posts waits there.
-ghost use Rattle.std.specs.Prelude.{◌≡◌, if◌then◌else◌};
+ghost use Rattle.std.specs.Prelude.{◌≡◌, ◌&&◌, if◌then◌else◌, length, not};
 ghost use Rattle.ws_steps.specs.Queues.{is_empty};
 ghost use Rattle.ws_value.specs.declared.value.Message.TheVariants.{Error};
 ghost use Rattle.ws_node.specs.Edges.{Brings, BringsUp, PostsBoth, TakesAbove, TakesBelow, TellsBoth, Waits, WaitsAbove, WaitsBelow, broken_after, broken_by, had_entrance, posts_at, takes_more, tells_at};
 ghost use Rattle.ws_node.specs.Messages.{as_fair, is_fair, is_fair_reason};
-ghost use Rattle.ws_node.specs.Node.{is_over, port_below, waiting_at};
+ghost use Rattle.ws_node.specs.Node.{is_over, port_below, sent_at, waiting_at};
 
 use crate::node::{Entrance, Exit, Input, Node};
 use ws_edge::End;
@@ -160,6 +160,16 @@ fn all_posted(end: &Option<End>) -> bool
     }
 }
 
+/// How many messages were posted at an end.
+fn posted_at(end: &Option<End>) -> u64
+    ensures { result ≡ length (sent_at end.now) }
+{
+    match end {
+        Some(end) => end.posted(),
+        None => 0,
+    }
+}
+
 impl Node {
     /// Posts what waits at both ends. True says that a message was posted.
     pub fn post(&mut self) -> bool
@@ -269,6 +279,28 @@ impl Node {
         if let Err(NoMemory) = end.push(message) {
             self.core.stopped = Some(Why::NoMemory);
         }
+    }
+
+    /// Whether a message waits to be posted.
+    pub fn waits(&self) -> bool
+        ensures { result
+            ≡ not (is_empty (waiting_at self.now.entrance.above) && is_empty (waiting_at self.now.exit.below)) }
+    {
+        !all_posted(&self.entrance.above) || !all_posted(&self.exit.below)
+    }
+
+    /// How many messages were posted to the node above.
+    pub fn posted_above(&self) -> u64
+        ensures { result ≡ length (sent_at self.now.entrance.above) }
+    {
+        posted_at(&self.entrance.above)
+    }
+
+    /// How many messages were posted to the node below.
+    pub fn posted_below(&self) -> u64
+        ensures { result ≡ length (sent_at self.now.exit.below) }
+    {
+        posted_at(&self.exit.below)
     }
 
     /// Whether each pipe has settled, the host has heard of everything, and nothing waits to be posted.

@@ -1,6 +1,7 @@
 //! The node of a run with workers that is fed by the input.
-ghost use Rattle.std.specs.Prelude.{◌≡◌, IfOk, None, Some};
+ghost use Rattle.std.specs.Prelude.{◌≡◌, IfOk, None, Some, length};
 ghost use Rattle.ws_io.specs.Moment.{moment};
+ghost use Rattle.ws_node.specs.Node.{sent_at};
 ghost use Rattle.ws_node.specs.Nodes.{HeadGoes};
 ghost use Rattle.ws_node.specs.Opening.{IsAccepted};
 ghost use Rattle.ws_node.specs.Past.{Driven, IsNew, IsUnused};
@@ -59,6 +60,13 @@ impl Head {
         ensures near { ReadsNear self.new }
     {
         self.node.turn(alloc, input, &mut Nothing)
+    }
+
+    /// How many messages it has posted.
+    pub fn posted(&self) -> u64
+        ensures { result ≡ length (sent_at self.now.exit.below) }
+    {
+        self.node.posted_below()
     }
 
     /// The end of its edge.

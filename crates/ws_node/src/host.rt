@@ -68,7 +68,8 @@ fn place_of(readable: StreamId) -> Option<usize>
 }
 
 impl Node {
-    /// Performs jobs, and does at each event what it asks, until there is nothing to do, or a turn's share is done.
+    /// Performs jobs, and does at each event what it asks, until there is nothing to do, a message waits to be posted,
+    /// or a turn's share is done.
     pub fn go_on<S: Source, K: Sink>(&mut self, alloc: Global, input: &mut S, output: &mut K)
         requires { Driven self.old }
         ensures driven { Driven self.new }
@@ -87,6 +88,9 @@ impl Node {
             return;
         }
         for _ in 1..EVENTS_OF_A_TURN {
+            if self.waits() {
+                return;
+            }
             jobs = self.work(jobs);
             if !self.hear(alloc, input, output) {
                 return;

@@ -1,5 +1,6 @@
 //! The node of a run that one of its workers has.
-ghost use Rattle.std.specs.Prelude.{◌≡◌, IfOk, None, Some};
+ghost use Rattle.std.specs.Prelude.{◌≡◌, IfOk, None, Some, length};
+ghost use Rattle.ws_node.specs.Node.{sent_at};
 ghost use Rattle.ws_node.specs.Nodes.{MiddleGoes};
 ghost use Rattle.ws_node.specs.Opening.{IsAccepted};
 ghost use Rattle.ws_node.specs.Past.{Driven, IsNew, IsUnused};
@@ -72,6 +73,14 @@ impl Middle {
         ensures posts { PostsHeard self.old self.new }
     {
         self.node.turn(alloc, &mut Nothing, &mut Nothing)
+    }
+
+    /// How many messages it has posted to the node above, and to the one below.
+    pub fn posted(&self) -> (u64, u64)
+        ensures above { result.0 ≡ length (sent_at self.now.entrance.above) }
+        ensures below { result.1 ≡ length (sent_at self.now.exit.below) }
+    {
+        (self.node.posted_above(), self.node.posted_below())
     }
 
     /// The ends of its edges: that of the edge above, and that of the edge below.

@@ -2,6 +2,7 @@
 ghost use Rattle.std.specs.Prelude.{◌≡◌, IfOk, None, Some, length};
 ghost use Rattle.ws_io.specs.Moment.{moment};
 ghost use Rattle.ws_node.specs.Ends.{EndsAs};
+ghost use Rattle.ws_node.specs.Node.{sent_at};
 ghost use Rattle.ws_node.specs.Nodes.{TailGoes};
 ghost use Rattle.ws_node.specs.Opening.{IsAccepted};
 ghost use Rattle.ws_node.specs.Past.{Driven, IsNew, IsUnused};
@@ -62,6 +63,13 @@ impl Tail {
         ensures posts { PostsHeard self.old self.new }
     {
         self.node.turn(alloc, &mut Nothing, output)
+    }
+
+    /// How many messages it has posted.
+    pub fn posted(&self) -> u64
+        ensures { result ≡ length (sent_at self.now.entrance.above) }
+    {
+        self.node.posted_above()
     }
 
     /// How the run ends, by how its pipe into the sink settled: none says that it is pending, and that memory wasn't

@@ -1,6 +1,8 @@
 //! A turn of a node, and what it answers.
-ghost use Rattle.std.specs.Prelude.{◌≡◌, false};
+ghost use Rattle.std.specs.Prelude.{◌≡◌, false, if◌then◌else◌};
 ghost use Rattle.ws_io.specs.Moment.{moment};
+ghost use Rattle.ws_node.specs.declared.turn.Turn.TheVariants.{Ended, Worked};
+ghost use Rattle.ws_node.specs.Node.{is_over};
 ghost use Rattle.ws_node.specs.Past.{Driven};
 ghost use Rattle.ws_node.specs.Turns.{PostsHeard, TurnIs};
 ghost use Rattle.ws_node.specs.Went.{Went};
@@ -26,9 +28,21 @@ pub enum Turn {
 }
 
 impl Node {
-    /// One turn: the node posts what waits at its edges, takes at most one message from each, and then performs at most
-    /// 100,000 jobs and hears of at most 64 events, with what it does at each. One that has stopped does nothing; one
-    /// that finds no memory tells its neighbours so.
+    /// How a turn ended in which something was done.
+    fn ended_or_worked(&self) -> Turn
+        ensures { result ≡ (if is_over self.now then Ended else Worked) }
+    {
+        if self.is_over() {
+            Turn::Ended
+        } else {
+            Turn::Worked
+        }
+    }
+
+    /// One turn: the node posts what waits at its edges. Where nothing was posted it takes at most one message from
+    /// each, and performs at most 100,000 jobs and hears of at most 64 events, with what it does at each, until a
+    /// message waits to be posted: so its neighbours can be woken before it goes on. One that has stopped does nothing;
+    /// one that finds no memory tells its neighbours so.
     pub fn turn<S: Source, K: Sink>(&mut self, alloc: Global, input: &mut S, output: &mut K) -> Turn
         requires { Driven self.old }
         ensures driven { Driven self.new }
@@ -45,10 +59,13 @@ impl Node {
             None => {}
         }
         let posted = self.post();
+        if posted {
+            return self.ended_or_worked();
+        }
         let above = self.take_above();
         let below = self.take_below();
         let busy = self.core.is_busy();
-        let some = posted | above | below | busy;
+        let some = above | below | busy;
         self.go_on(alloc, input, output);
         match self.core.stopped {
             Some(Why::NoMemory) => {

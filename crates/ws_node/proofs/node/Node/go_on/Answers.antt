@@ -30,6 +30,15 @@ loop-init g c = (
       (works-give c.args.self.now c.work-jobs.new.self c.work-jobs.ensures.works) c.hear.ensures.gives,
 )
 
+pub returns-then-waits-clause-went : goal.returns-then-waits-clause-went
+returns-then-waits-clause-went g c = c.loop.invariant.1
+
+pub returns-then-waits-clause-begun : goal.returns-then-waits-clause-begun
+returns-then-waits-clause-begun g c = λ busy goes. c.loop.invariant.2
+
+pub returns-then-waits-clause-gives : goal.returns-then-waits-clause-gives
+returns-then-waits-clause-gives g c = c.loop.invariant.3
+
 pub hear-requires-in-loop : goal.hear-requires-in-loop
 hear-requires-in-loop g c = works-driven c.loop.self c.work-jobs-in-loop.new.self c.loop.invariant.0 c.work-jobs-in-loop.ensures.works
 

@@ -1,10 +1,12 @@
-use Rattle.std.proofs.Common.{◌≡◌, false, Some, sym, ◌∙◌, arith}
+use Rattle.std.proofs.Common.{◌≡◌, ◌||◌, false, true, Some, refl, ap, subst, sym, ◌∙◌, arith}
+use Rattle.ws_node.specs.Edges.{PostsBoth}
+use Rattle.ws_node.specs.Turns.{TurnIs}
 use Rattle.ws_realm.specs.declared.realm.Why.TheVariants.{NoMemory}
 use Rattle.ws_io.specs.Moment.{moment}
 use Rattle.ws_node.proofs.Giving.{posts-nothing}
 use Rattle.ws_node.proofs.Going.{went-same, went-then}
 use Rattle.ws_node.proofs.Telling.{tells}
-use Rattle.ws_node.proofs.Turning.{begins-driven, begins-went, done, idle, told-posts, turn-posts}
+use Rattle.ws_node.proofs.Turning.{begins-driven, begins-went, done, idle, posted-only-driven, posted-only-gives, posted-only-turn, posted-only-went, told-posts, turn-posts}
 use Rattle.ws_node.proofs.node.Node.turn.Goals as goal
 
 pub returns-in-Some-NoMemory-clause-went : goal.returns-in-Some-NoMemory-clause-went
@@ -14,6 +16,24 @@ returns-in-Some-NoMemory-clause-went g c =
 pub returns-in-Some-Spent-clause-went : goal.returns-in-Some-Spent-clause-went
 returns-in-Some-Spent-clause-went g c =
     went-same c.args.self.now (moment (g.S.Source.faults c.args.input.now) (g.S.Source.feed c.args.input.now) (g.K.Sink.faults c.args.output.now) (g.K.Sink.finished c.args.output.now)) (g.K.Sink.got c.args.output.now)
+
+pub returns-then-posted-clause-driven : goal.returns-then-posted-clause-driven
+returns-then-posted-clause-driven g c =
+    posted-only-driven c.args.self.now c.post-posted.new.self c.requires c.in-None.is (subst (λ posted. PostsBoth posted c.args.self.now c.post-posted.new.self) c.if-posted.true c.post-posted.ensures)
+
+pub returns-then-posted-clause-went : goal.returns-then-posted-clause-went
+returns-then-posted-clause-went g c =
+    posted-only-went c.args.self.now c.post-posted.new.self c.requires c.in-None.is (subst (λ posted. PostsBoth posted c.args.self.now c.post-posted.new.self) c.if-posted.true c.post-posted.ensures)
+    (moment (g.S.Source.faults c.args.input.now) (g.S.Source.feed c.args.input.now) (g.K.Sink.faults c.args.output.now) (g.K.Sink.finished c.args.output.now)) (g.K.Sink.got c.args.output.now)
+
+pub returns-then-posted-clause-turn : goal.returns-then-posted-clause-turn
+returns-then-posted-clause-turn g c =
+    subst (λ turn. TurnIs turn c.args.self.now c.post-posted.new.self) (sym c.ended_or_worked.ensures)
+    (posted-only-turn c.args.self.now c.post-posted.new.self c.requires c.in-None.is (subst (λ posted. PostsBoth posted c.args.self.now c.post-posted.new.self) c.if-posted.true c.post-posted.ensures) _ refl)
+
+pub returns-then-posted-clause-posts : goal.returns-then-posted-clause-posts
+returns-then-posted-clause-posts g c =
+    posted-only-gives c.args.self.now c.post-posted.new.self c.requires c.in-None.is (subst (λ posted. PostsBoth posted c.args.self.now c.post-posted.new.self) c.if-posted.true c.post-posted.ensures)
 
 pub go_on-requires : goal.go_on-requires
 go_on-requires g c =
@@ -87,14 +107,16 @@ returns-then-some-clause-turn g c = (
       (moment (g.S.Source.faults c.go_on.new.input) (g.S.Source.feed c.go_on.new.input) (g.K.Sink.faults c.go_on.new.output) (g.K.Sink.finished c.go_on.new.output))
       (g.K.Sink.got c.args.output.now) (g.K.Sink.got c.go_on.new.output) c.go_on.ensures.went
       (record { driven = c.requires; goes = c.in-None.is; post = c.post-posted.ensures; above = c.take_above-above.ensures; below = c.take_below-below.ensures })
-      c.is_busy-busy.ensures (λ busy. c.go_on.ensures.begun busy c.in-None-stopped.is) c.if-some.true,
+      c.is_busy-busy.ensures (λ busy. c.go_on.ensures.begun busy c.in-None-stopped.is)
+      (ap (λ posted. ((posted || c.take_above-above.result) || c.take_below-below.result) || c.is_busy-busy.result) c.if-posted.false ∙ c.if-some.true),
 )
 
 pub returns-else-some-clause-turn : goal.returns-else-some-clause-turn
 returns-else-some-clause-turn g c =
     let h = idle c.args.self.now c.post-posted.new.self c.take_above-above.new.self c.take_below-below.new.self c.go_on.new.self c.post-posted.result c.take_above-above.result c.take_below-below.result c.is_busy-busy.result
     (record { driven = c.requires; goes = c.in-None.is; post = c.post-posted.ensures; above = c.take_above-above.ensures; below = c.take_below-below.ensures })
-    c.is_busy-busy.ensures c.go_on.ensures.idle c.if-some.false in
+    c.is_busy-busy.ensures c.go_on.ensures.idle
+    (ap (λ posted. ((posted || c.take_above-above.result) || c.take_below-below.result) || c.is_busy-busy.result) c.if-posted.false ∙ c.if-some.false) in
     (c.in-None-stopped.is, sym c.is_over.ensures ∙ c.if-is_over.false, h.0, h.1)
 
 pub returns-in-Some-NoMemory-clause-posts : goal.returns-in-Some-NoMemory-clause-posts
