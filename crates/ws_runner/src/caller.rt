@@ -9,7 +9,6 @@ ghost use Rattle.ws_runner.specs.Place.{Moves};
 use crate::chain::Chain;
 use crate::place::Place;
 use crate::wake::{Bells, pause};
-use crossbeam_utils::Backoff;
 use crossbeam_utils::sync::Parker;
 use std::alloc::Global;
 use std::sync::{Wait, WaitMethods};
@@ -80,13 +79,13 @@ fn turn_head<S: Source>(
     if *over {
         return Round::Over;
     }
+    let before = head.posted();
     let turn = head.turn(alloc, input);
     *over = is_over(turn);
-    let round = Round::of(turn);
-    if round == Round::Moved {
+    if *over || head.posted() != before {
         bells.wake_first();
     }
-    round
+    Round::of(turn)
 }
 
 /// A turn of the last node, unless it is over.
@@ -104,13 +103,13 @@ fn turn_tail<K: Sink>(
     if *over {
         return Round::Over;
     }
+    let before = tail.posted();
     let turn = tail.turn(alloc, output);
     *over = is_over(turn);
-    let round = Round::of(turn);
-    if round == Round::Moved {
+    if *over || tail.posted() != before {
         bells.wake_last();
     }
-    round
+    Round::of(turn)
 }
 
 /// A turn of the node at this place, unless it is over or its worker has it. The worker's number and that of the turn
@@ -132,13 +131,11 @@ fn turn_place<F: Fn(u32, u64)>(
         return Round::Over;
     }
     enter(*worker, number);
+    let before = node.posted();
     let turn = node.turn(alloc);
     *over = is_over(turn);
-    let round = Round::of(turn);
-    if round == Round::Moved {
-        bells.wake_around(*worker);
-    }
-    round
+    bells.wake_after(*worker, *over, before, node.posted());
+    Round::of(turn)
 }
 
 /// A turn of each node of a worker that has no thread. In each round it is the turn of this number.
@@ -185,7 +182,7 @@ pub fn drive_rest<R: Wait, S: Source, K: Sink, F: Fn(u32, u64)>(
         head: false,
         tail: false,
     };
-    let looks = Backoff::new();
+    let mut looks = 0u32;
     let mut number = 0u64;
     for _ in rt.forever() {
         number = number.saturating_add(1);
@@ -193,8 +190,8 @@ pub fn drive_rest<R: Wait, S: Source, K: Sink, F: Fn(u32, u64)>(
         let middle = turn_places(alloc, places, number, bells, enter);
         let last = turn_tail(alloc, &mut chain.tail, &mut over.tail, output, bells);
         match first.and(middle).and(last) {
-            Round::Moved => looks.reset(),
-            Round::Still => pause(rt, parker, &looks),
+            Round::Moved => looks = 0,
+            Round::Still => pause(rt, parker, &mut looks),
             Round::Over => {
                 if let Some(status) = chain.tail.status() {
                     return status;

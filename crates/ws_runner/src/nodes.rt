@@ -21,10 +21,10 @@ use ws_stages::Plan;
 /// most one piece of 4,096 bytes is read and not yet written.
 ///
 /// A plan without workers has one node. One with workers has a node for each, between one that reads the input and one
-/// that writes the output. Each worker's node is driven on a thread of its own, the two others and those of workers that
-/// are refused a thread on the caller's; at the start of each turn of a worker the gate is entered with its number and
-/// the turn's, both from 1. All nodes are made before the first turn. A realm that is spent, after 2^62 calls and jobs,
-/// does nothing more: no status stands for it, and the call doesn't return then.
+/// that writes the output. Each worker's node is driven on a thread of its own, the two others and those of workers
+/// that are refused a thread on the caller's; at the start of each turn of a worker the gate is entered with its number
+/// and the turn's, both from 1. All nodes are made before the first turn. A realm that is spent, after 2^62 calls and
+/// jobs, does nothing more: no status stands for it, and the call doesn't return then.
 ///
 /// A run with workers that is traced tells what went over each of its edges. Room for that is taken before the first
 /// turn.

@@ -1,6 +1,6 @@
 //! How those are woken who drive the nodes of a run.
-use crossbeam_utils::Backoff;
 use crossbeam_utils::sync::{Parker, Unparker};
+use std::hint::spin_loop;
 use std::sync::Wait;
 use std::sync::atomic::{AtomicBool, Ordering};
 
@@ -87,20 +87,36 @@ impl Bells {
         self.wake(self.last);
     }
 
-    /// Wakes those who drive the nodes before and behind this one.
-    pub fn wake_around(&self, number: u32) {
-        self.wake(number.saturating_sub(1));
-        self.wake(number.saturating_add(1));
+    /// After a turn of this node: wakes those who drive the nodes before and behind it, where it is over or has posted
+    /// something to them. How many messages it had posted to each is told, and how many it has. Nobody waits for a
+    /// message to be taken: a row is never full.
+    pub fn wake_after(&self, number: u32, over: bool, before: (u64, u64), now: (u64, u64)) {
+        if over || now.0 != before.0 {
+            self.wake(number.saturating_sub(1));
+        }
+        if over || now.1 != before.1 {
+            self.wake(number.saturating_add(1));
+        }
     }
 }
 
-/// After a turn that found nothing to do: the next one comes at once for a few times, since a neighbour mostly answers
-/// sooner than a thread is woken. Then the thread sleeps until it is woken.
-pub fn pause<R: Wait>(rt: &R, parker: &Parker, looks: &Backoff) {
-    if looks.is_completed() {
-        parker.park(rt);
-        looks.reset();
+/// How often a thread looks again before it sleeps.
+const LOOKS: u32 = 100;
+
+/// How often it pauses between two looks: all of them take about as long as it takes to wake a thread that sleeps.
+const PAUSES: u32 = 10;
+
+/// After a turn that found nothing to do: the next one comes soon for a while, since a neighbour mostly answers sooner
+/// than a thread is woken. Then the thread sleeps until it is woken. It never yields its processor: others who are busy
+/// would have it for longer than that.
+pub fn pause<R: Wait>(rt: &R, parker: &Parker, looks: &mut u32) {
+    if *looks < LOOKS {
+        *looks += 1;
+        for _ in 0..PAUSES {
+            spin_loop();
+        }
     } else {
-        looks.snooze();
+        *looks = 0;
+        parker.park(rt);
     }
 }

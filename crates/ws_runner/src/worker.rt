@@ -6,7 +6,6 @@ ghost use Rattle.ws_runner.specs.Place.{ArePlacesOf, IsPlaceOf};
 
 use crate::place::{HandsBack, Place};
 use crate::wake::{Bells, pause};
-use crossbeam_utils::Backoff;
 use crossbeam_utils::sync::Parker;
 use std::alloc::Global;
 use std::snapshot::Snapshot;
@@ -36,21 +35,22 @@ impl Worker {
         ensures { MiddleGoes node result }
     {
         let mut node = node;
-        let looks = Backoff::new();
+        let mut looks = 0u32;
         let mut turn = 0u64;
         for _ in rt.forever() {
             turn = turn.saturating_add(1);
             gate.enter(self.number, turn);
+            let before = node.posted();
             match node.turn(alloc) {
                 Turn::Worked => {
-                    looks.reset();
-                    bells.wake_around(self.number);
+                    looks = 0;
+                    bells.wake_after(self.number, false, before, node.posted());
                 }
                 Turn::Ended | Turn::NoMemory => {
-                    bells.wake_around(self.number);
+                    bells.wake_after(self.number, true, before, node.posted());
                     return node;
                 }
-                Turn::Idle | Turn::Spent => pause(rt, &self.parker, &looks),
+                Turn::Idle | Turn::Spent => pause(rt, &self.parker, &mut looks),
             }
         }
         unreachable!()

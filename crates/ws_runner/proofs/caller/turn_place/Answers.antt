@@ -4,8 +4,5 @@ use Rattle.ws_runner.specs.declared.place.Place.{Place}
 use Rattle.ws_runner.proofs.Places.{middle-then}
 use Rattle.ws_runner.proofs.caller.turn_place.Goals as goal
 
-pub returns-then-eq : goal.returns-then-eq
-returns-then-eq g c = λ a at. middle-then a c.in-Here.node c.turn-turn.new.self (subst (λ (p : Place). IsPlaceOf a p) c.in-Here.is at) c.turn-turn.ensures.went
-
-pub returns-else-eq : goal.returns-else-eq
-returns-else-eq g c = λ a at. middle-then a c.in-Here.node c.turn-turn.new.self (subst (λ (p : Place). IsPlaceOf a p) c.in-Here.is at) c.turn-turn.ensures.went
+pub returns : goal.returns
+returns g c = λ a at. middle-then a c.in-Here.node c.turn-turn.new.self (subst (λ (p : Place). IsPlaceOf a p) c.in-Here.is at) c.turn-turn.ensures.went
