@@ -1,0 +1,5 @@
+pub mod HeldLemmas
+pub mod KeptLemmas
+pub mod OrderLemmas
+pub mod SoundLemmas
+pub mod ValueLemmas
