@@ -33,7 +33,7 @@ pub fn rank(promises: &Promises, p: PromiseId) -> Option<u64>
     promises.rank(p)
 }
 
-/// Whether there is such a promise that wasn't released.
+/// Whether there is such a promise.
 pub fn is_live(promises: &Promises, p: PromiseId) -> bool
     ensures { result ≡ is_some (table.outcome_at promises.now.table p) }
 {

@@ -1,48 +1,58 @@
-use Rattle.std.proofs.Common.{Some, None, refl, ap, arith, sym, ◌∙◌}
-use Rattle.ws_promise.specs.declared.slots.Slot.{Slot}
-use Rattle.ws_promise.specs.declared.words.Word.TheVariants.{Ended, Watched, Released}
+use Rattle.std.proofs.Common.{ap, sym, arith, ◌≡◌, ◌∙◌, ◌<◌, Some, None}
+use Rattle.std.specs.Option.{option_copied_mut}
+use Rattle.ws_places.specs.Seen.{value_in}
 use Rattle.ws_promise.specs.Words.{SeenSlots}
-use Rattle.ws_promise.proofs.WordLemmas.{put, put-sound, rank-word, spot, word-place, word-slot}
+use Rattle.ws_promise.proofs.ItemLemmas.{length-shown, same-ended, same-slot, written, written-length, taken-again}
 use Rattle.ws_promise.proofs.slots.put_rank.Goals as goal
 
-pub index_mut-requires-in-At : goal.index_mut-requires-in-At
-index_mut-requires-in-At c =
+pub returns-in-Some-clause-items : goal.returns-in-Some-clause-items
+returns-in-Some-clause-items c = λ s g.
     let a = c.slots.inside in
     let shown = ap (λ (v : SeenSlots). v.items) c.slots.view_is in
-    let here = word-place a.words.items a.places.items c.args.slots.now.items c.args.p.0 c.in-At.k _ c.index.result.now c.slots.invariant.3 shown c.requires.within refl c.index.ensures (sym c.word.ensures ∙ c.in-At.is) in
-    omega arith
+    let v = c.in-Some.slot.now in
+    let l : c.args.p.0 < a.places.next = omega (arith, c.requires.within, length-shown a.places.next a.places.kept c.args.slots.now.items shown) in
+    let there : value_in c.args.p.0 a.places.kept ≡ Some v = sym c.get_mut.ensures.value ∙ ap option_copied_mut c.in-Some.is in
+    let same = same-slot a.places.next c.args.p.0 a.places.kept c.args.slots.now.items v s shown l there g in
+    rw same (written a.places.next c.args.p.0 v _ a.places.kept c.args.slots.now.items shown l there)
 
-pub invariant_of-slots-in-At : goal.invariant_of-slots-in-At
-invariant_of-slots-in-At c =
+pub returns-in-Some-clause-len : goal.returns-in-Some-clause-len
+returns-in-Some-clause-len c =
     let a = c.slots.inside in
     let shown = ap (λ (v : SeenSlots). v.items) c.slots.view_is in
-    let here = spot a.words.items a.places.items c.args.slots.now.items c.args.p.0 c.in-At.k _ _ c.index.result.now c.index_mut-in-At.result.now c.slots.invariant.3 shown c.requires.within refl refl c.index.ensures (sym c.word.ensures ∙ c.in-At.is) c.index_mut-in-At.ensures.value in
-    (omega arith, omega arith, omega arith, put-sound a.words.items a.places.items c.args.p.0 c.in-At.k _ _ c.slots.invariant.3 here, c.slots.invariant.4)
+    written-length a.places.next a.places.kept _ c.args.slots.now.items shown
 
-pub returns-in-At-clause-items : goal.returns-in-At-clause-items
-returns-in-At-clause-items c = λ s g.
+pub keep_again-requires-clause-room : goal.keep_again-requires-clause-room
+keep_again-requires-clause-room c =
     let a = c.slots.inside in
     let shown = ap (λ (v : SeenSlots). v.items) c.slots.view_is in
-    let here = spot a.words.items a.places.items c.args.slots.now.items c.args.p.0 c.in-At.k _ _ c.index.result.now c.index_mut-in-At.result.now c.slots.invariant.3 shown c.requires.within refl refl c.index.ensures (sym c.word.ensures ∙ c.in-At.is) c.index_mut-in-At.ensures.value in
-    put a.words.items a.places.items c.args.slots.now.items c.args.p.0 c.in-At.k c.index_mut-in-At.result.now s (λ (x : Slot). record x { rank = Some c.args.rank }) c.slots.invariant.3 here shown g
+    let limit = ap (λ (v : SeenSlots). v.limit) c.slots.view_is in
+    omega (arith, c.requires.room, limit, length-shown a.places.next a.places.kept c.args.slots.now.items shown, c.slots.invariant.0, c.slots.invariant.1)
 
-pub returns-in-Ended-clause-items : goal.returns-in-Ended-clause-items
-returns-in-Ended-clause-items c = λ s g.
+pub keep_again-requires-clause-given : goal.keep_again-requires-clause-given
+keep_again-requires-clause-given c =
     let a = c.slots.inside in
     let shown = ap (λ (v : SeenSlots). v.items) c.slots.view_is in
-    let there = word-slot a.words.items a.places.items c.args.slots.now.items c.args.p.0 _ c.index.result.now Ended shown c.requires.within refl c.index.ensures (sym c.word.ensures ∙ c.in-Ended.is) in
-    rw c.watched.ensures (rank-word a.words.items a.places.items c.args.slots.now.items c.args.p.0 c.args.rank None s shown there g)
+    omega (arith, c.requires.within, length-shown a.places.next a.places.kept c.args.slots.now.items shown)
 
-pub returns-in-Watched-clause-items : goal.returns-in-Watched-clause-items
-returns-in-Watched-clause-items c = λ s g.
+pub invariant_of-slots-2 : goal.invariant_of-slots-2
+invariant_of-slots-2 c =
     let a = c.slots.inside in
     let shown = ap (λ (v : SeenSlots). v.items) c.slots.view_is in
-    let there = word-slot a.words.items a.places.items c.args.slots.now.items c.args.p.0 _ c.index.result.now (Watched c.in-Watched.field-0) shown c.requires.within refl c.index.ensures (sym c.word.ensures ∙ c.in-Watched.is) in
-    rw c.watched-in-Watched.ensures (rank-word a.words.items a.places.items c.args.slots.now.items c.args.p.0 c.args.rank (Some c.in-Watched.field-0) s shown there g)
+    let limit = ap (λ (v : SeenSlots). v.limit) c.slots.view_is in
+    let long = length-shown a.places.next a.places.kept c.args.slots.now.items shown in
+    (omega (arith, c.requires.room, limit, long, c.keep_again.ensures.next), omega (arith, c.keep_again.ensures.next, c.keep_again.ensures.spare, c.slots.invariant.1, c.requires.room, limit), c.slots.invariant.2)
 
-pub returns-in-Released-clause-items : goal.returns-in-Released-clause-items
-returns-in-Released-clause-items c = λ s g.
+pub returns-clause-items : goal.returns-clause-items
+returns-clause-items c = λ s g.
     let a = c.slots.inside in
     let shown = ap (λ (v : SeenSlots). v.items) c.slots.view_is in
-    let there = word-slot a.words.items a.places.items c.args.slots.now.items c.args.p.0 _ c.index.result.now Released shown c.requires.within refl c.index.ensures (sym c.word.ensures ∙ c.in-Released.is) in
-    absurd cc
+    let l : c.args.p.0 < a.places.next = omega (arith, c.requires.within, length-shown a.places.next a.places.kept c.args.slots.now.items shown) in
+    let none : value_in c.args.p.0 a.places.kept ≡ None = sym c.get_mut.ensures.value ∙ ap option_copied_mut c.in_default.is in
+    let same = same-ended a.places.next c.args.p.0 a.places.kept c.args.slots.now.items s shown l none g in
+    rw (c.keep_again.ensures.next, c.keep_again.ensures.kept, same) (taken-again a.places.next c.args.p.0 _ a.places.kept c.args.slots.now.items shown l none)
+
+pub returns-clause-len : goal.returns-clause-len
+returns-clause-len c =
+    let a = c.slots.inside in
+    let shown = ap (λ (v : SeenSlots). v.items) c.slots.view_is in
+    rw c.keep_again.ensures.next (written-length a.places.next a.places.kept _ c.args.slots.now.items shown)

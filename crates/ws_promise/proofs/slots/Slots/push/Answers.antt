@@ -1,21 +1,38 @@
-use Rattle.std.proofs.Common.{◌≡◌, length, subst, ap, sym, arith}
-use Rattle.ws_promise.specs.Words.{SeenSlots, Sound, Taken}
-use Rattle.ws_promise.proofs.WordLemmas.{length-slots_of, pushed-sound, taken-slots}
+use Rattle.std.proofs.Common.{ap, arith}
+use Rattle.ws_promise.specs.Words.{SeenSlots}
+use Rattle.ws_promise.proofs.ItemLemmas.{length-shown, pushed}
 use Rattle.ws_promise.proofs.slots.Slots.push.Goals as goal
 
-pub returns : goal.returns
-returns c =
+pub keep-number-requires-clause-room : goal.keep-number-requires-clause-room
+keep-number-requires-clause-room c =
     let a = c.self.inside in
-    let same : length a.words.items ≡ c.len-number.result = omega arith in
-    let more = taken-slots a.words.items a.places.items c.take_place-k.new.places.items c.take_place-k.result c.self.invariant.3 (subst (λ n. Taken a.places.items c.take_place-k.new.places.items n c.take_place-k.result) (sym same) c.take_place-k.ensures.taken) in
-    rw (← c.self.view_is, c.push_reserved.ensures.items, c.at.ensures) (ap (λ ss. record { items = ss; limit = a.limit }) more)
+    let shown = ap (λ (v : SeenSlots). v.items) c.self.view_is in
+    let limit = ap (λ (v : SeenSlots). v.limit) c.self.view_is in
+    let long = length-shown a.places.next a.places.kept c.args.self.now.items shown in
+    omega (arith, long, limit, c.requires, c.self.invariant.0, c.self.invariant.1)
+
+pub keep-number-requires-clause-few : goal.keep-number-requires-clause-few
+keep-number-requires-clause-few c =
+    let a = c.self.inside in
+    let shown = ap (λ (v : SeenSlots). v.items) c.self.view_is in
+    let limit = ap (λ (v : SeenSlots). v.limit) c.self.view_is in
+    let long = length-shown a.places.next a.places.kept c.args.self.now.items shown in
+    omega (arith, long, limit, c.requires, c.self.invariant.0)
 
 pub invariant_of-self : goal.invariant_of-self
 invariant_of-self c =
     let a = c.self.inside in
     let shown = ap (λ (v : SeenSlots). v.items) c.self.view_is in
     let limit = ap (λ (v : SeenSlots). v.limit) c.self.view_is in
-    let same : length a.words.items ≡ c.len-number.result = omega arith in
-    let taken = subst (λ n. Taken a.places.items c.take_place-k.new.places.items n c.take_place-k.result) (sym same) c.take_place-k.ensures.taken in
-    let sound : Sound c.push_reserved.new.self.items c.take_place-k.new.places.items = rw (c.push_reserved.ensures.items, c.at.ensures) (pushed-sound a.words.items a.places.items c.take_place-k.new.places.items c.take_place-k.result c.self.invariant.3 taken) in
-    (omega (arith, ap length shown, limit, length-slots_of a.words.items a.places.items), omega arith, omega arith, sound, c.self.invariant.4)
+    let long = length-shown a.places.next a.places.kept c.args.self.now.items shown in
+    let k = c.keep-number.ensures in
+    (omega (arith, k.next, long, limit, c.requires), omega (arith, k.next, k.spare, c.self.invariant.1), c.self.invariant.2)
+
+pub returns : goal.returns
+returns c =
+    let a = c.self.inside in
+    let shown = ap (λ (v : SeenSlots). v.items) c.self.view_is in
+    let limit = ap (λ (v : SeenSlots). v.limit) c.self.view_is in
+    let k = c.keep-number.ensures in
+    let more = pushed a.places.next a.places.kept c.keep-number.new.self.kept c.args.self.now.items shown k.none k.kept in
+    rw (k.next, ← limit) (ap (λ ss. record { items = ss; limit = a.limit }) more)
