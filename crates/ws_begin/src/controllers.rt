@@ -12,7 +12,7 @@ use ws_steps::{
     Answer, ByteOperation, Effect, Owner, ReadableOperation, Reply, TransformOperation,
     WritableOperation,
 };
-use ws_tables::{HostPromise, Tables};
+use ws_tables::Tables;
 use ws_value::{HostId, Plain, StreamId, Value};
 
 /// What a host's answer settles a promise with.
@@ -170,7 +170,7 @@ pub(crate) fn settle(tables: &mut Tables, h: HostId, answer: Answer) -> Reply
         return UNSUPPORTED;
     };
     let _hosts = tables.hosts.len();
-    tables.hosts[h.0 as usize] = HostPromise::settled();
+    tables.hosts.settle(h.0 as usize);
     tables
         .caused
         .push(Effect::Settle(promise, outcome_of(answer)));

@@ -125,5 +125,6 @@ none-caused t begun none =
       slots = sym (performed_none (slots_of t)) ∙ ap (λ es. performed (causes es (slots_of t))) (sym none);
       resting = record { caused = none; others = begun.others; under_way = begun.turns.empty; kept = begun.kept };
       age = refl;
+      promises = let h = begun.room.promises in omega (arith, h);
       events = let h = begun.room.events in omega (arith, h);
     }

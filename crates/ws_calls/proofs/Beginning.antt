@@ -346,8 +346,7 @@ module _ (d : Done) (t t' : Tables) (within : (π : Prices) (i : StreamId) (a : 
         jobs = let h = ready.jobs in let a = took.jobs in let k = later-is jobs_alone t refl was in let k' = later-is jobs_alone t' refl now in omega (arith, h, a, jr, k, k', n, tees-jobs xs);
         events = let h = ready.promises.events in let a = took.events in let k = later-is events_alone t refl was in let k' = later-is events_alone t' refl now in omega (arith, h, a, er, k, k', n, tees-events xs);
         hosts =
-            let h = ready.hosts in let a = took.hosts in let k = later-is hosts_alone t refl was in let k' = later-is hosts_alone t' refl now in
-            let l = t.hosts.ok.0 in let l' = t'.hosts.ok.0 in omega (arith, h, a, hc, l, l', k, k', n, tees-hosts xs);
+            let h = ready.hosts in let a = took.hosts in let k = later-is hosts_alone t refl was in let k' = later-is hosts_alone t' refl now in omega (arith, h, a, hc, k, k', n, tees-hosts xs);
         caused = let h = ready.caused in let a = took.turns in omega (arith, h, a, ac, turns, turns', n, most);
         others = let h = ready.others in let a = took.turns in omega (arith, h, a, oc, turns, turns', n, most);
         lists = λ i y is. (each-has i y is).0;

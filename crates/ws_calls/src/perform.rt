@@ -1,6 +1,6 @@
 //! Calls and jobs performed whole.
 ghost use Rattle.std.specs.Prelude.{◌≡◌, ◌↔◌, true, ◌<◌, ◌≤◌, ◌+◌, ◌^◌, not, if◌then◌else◌};
-ghost use Rattle.ws_promise.specs.Seen.{HasEventRoom};
+ghost use Rattle.ws_promise.specs.Seen.{HasEventRoom, HasPromiseRoom};
 ghost use Rattle.ws_steps.specs.Calls as calls;
 ghost use Rattle.ws_steps.specs.Run as run;
 ghost use Rattle.ws_steps.specs.declared.calls.Call.TheVariants as call;
@@ -20,7 +20,8 @@ use ws_value::{StreamId, Value};
 
 /// A promise that a reply names is watched from now on.
 fn name(tables: &mut Tables, reply: Reply)
-    requires room { HasEventRoom 1 tables.old.promises }
+    requires promises { HasPromiseRoom 1 tables.old.promises }
+    requires events { HasEventRoom 1 tables.old.promises }
     ensures slots { slots_of tables.new ≡ calls.named reply (slots_of tables.old) }
     ensures rest { IsSameBeside tables.old tables.new }
 {

@@ -8,7 +8,7 @@ ghost use Rattle.ws_steps.specs.declared.calls.Thrown.TheVariants.{Unsupported};
 ghost use Rattle.ws_tables.specs.Room.{IsResting};
 ghost use Rattle.ws_tables.specs.View.{slots_of};
 
-use ws_tables::{HostPromise, Tables};
+use ws_tables::Tables;
 use ws_value::{HostId, Plain};
 
 /// Performs the call whole: the promise of a call of the host is fulfilled with undefined, and nothing more comes of
@@ -27,7 +27,7 @@ pub fn settle_done(tables: &mut Tables, h: HostId) -> bool
         return false;
     };
     let _hosts = tables.hosts.len();
-    tables.hosts[h.0 as usize] = HostPromise::settled();
+    tables.hosts.settle(h.0 as usize);
     tables.promises.fulfil(promise, Plain::Undefined);
     true
 }

@@ -191,8 +191,7 @@ next-room e rest t t' room kept did kept' =
       jobs = let h = room.jobs in let a = took.jobs in let k = later-is jobs_alone t refl kept in let k' = later-is jobs_alone t' refl kept' in omega (arith, h, a, jr, k, k');
       events = let h = room.events in let a = took.events in let k = later-is events_alone t refl kept in let k' = later-is events_alone t' refl kept' in omega (arith, h, a, er, k, k');
       hosts =
-          let h = room.hosts in let a = took.hosts in let k = later-is hosts_alone t refl kept in let k' = later-is hosts_alone t' refl kept' in
-          let l = t.hosts.ok.0 in let l' = t'.hosts.ok.0 in omega (arith, h, a, hc, l, l', k, k');
+          let h = room.hosts in let a = took.hosts in let k = later-is hosts_alone t refl kept in let k' = later-is hosts_alone t' refl kept' in omega (arith, h, a, hc, k, k');
       caused = let h = room.caused in let a = took.turns in omega (arith, h, a, cc', turns, turns');
       others = let h = room.others in let a = took.turns in omega (arith, h, a, oc, turns, turns');
       lists = λ i y is.
@@ -367,5 +366,6 @@ ends t s z v w none out turning =
       slots = same;
       resting = record { caused = out.caused; others = none.others; under_way = none.under_way; kept = kept-with w z (taken-kept s z out was.kept) };
       age = ap (λ (x : Slots). x.age) same ∙ performed-age (causes t.caused.effects (slots_of t));
+      promises = let h = was.room.promises in rw (out.promises) (omega (arith, h));
       events = let h = was.room.events in rw (out.promises) (omega (arith, h));
     }

@@ -17,7 +17,7 @@ pub record HasRoomFor (e : Effect) (t : Tables) : Type 0 where
   pub promises : HasPromiseRoom (own promises_alone e) t.promises
   pub jobs : HasJobRoom (own jobs_alone e) t.promises
   pub events : HasEventRoom (own events_alone e) t.promises
-  pub hosts : own hosts_alone e + vec_len t.hosts ≤ vec_capacity t.hosts
+  pub hosts : own hosts_alone e + length t.hosts.items ≤ t.hosts.capacity
   pub caused : effect_price turns_alone e + later turns_alone t + 6 ≤ t.caused.capacity
   pub others : effect_price turns_alone e + later turns_alone t + 6 ≤ vec_capacity t.others
   pub lists : EachHasLists (own queued_alone e) (λ i. own (requests_at (record { 0 = i })) e) (own descriptors_alone e) t.streams.items
@@ -96,9 +96,10 @@ pub record TakesOut (t t' : Tables) : Type 0 where
   pub places : places_of t' ≡ record (places_of t) { caused = t'.caused.capacity }
   pub records : KeepsRecords t t'
 
--- all that was caused is performed, with all that comes of it, in the places that there are; and there is a place for one more event
+-- all that was caused is performed, with all that comes of it, in the places that there are; and there are places to watch one promise
 pub record PerformsAll (t t' : Tables) : Type 0 where
   pub slots : slots_of t' ≡ performed (causes t.caused.effects (slots_of t))
   pub resting : IsResting t'
   pub age : t'.age ≡ t.age
+  pub promises : HasPromiseRoom 1 t'.promises
   pub events : HasEventRoom 1 t'.promises

@@ -14,7 +14,7 @@ use ws_steps::{
     ByteOperation, Effect, Event, Gift, HostCall, Owner, PipeOperation, PortOperation, ReadRequest,
     StartBy, Step, Taker, TeeOperation, TransformOperation, Use, WritableOperation,
 };
-use ws_tables::{HostPromise, Tables};
+use ws_tables::Tables;
 use ws_value::{Chunk, HostId, Plain, PortId, PromiseId, RequestId, StreamId, TeeId, Value};
 
 /// The start algorithm's result is undefined, or the host's promise. The start promise is resolved with it, and
@@ -183,7 +183,7 @@ fn call_host(tables: &mut Tables, call: &mut HostCall, u: &Use)
     let call = replace(call, HostCall::Pull(StreamId(0)));
     tables.promises.tell(Event::Host { id, call });
     tables.promises.use_this(promise, u);
-    tables.hosts.push_reserved(HostPromise::open(promise));
+    tables.hosts.push(promise);
 }
 
 /// The steps of a read request, by whom it answers.

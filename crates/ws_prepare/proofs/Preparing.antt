@@ -102,7 +102,7 @@ prepared t base jobs turns is-base is-jobs is-turns made has-turns room job-room
     let caused = has-turns.caused in let others = has-turns.others in let under-way = has-turns.under_way in
     let hosts = records.hosts in let grown = records.grown in
     record {
-      promises = fewer-room (places_for 0 8 3 14 t) base t.promises (omega (arith, is-base)) room;
+      promises = fewer-room (places_for 0 8 3 15 t) base t.promises (omega (arith, is-base)) room;
       jobs = omega (arith, is-base, is-jobs, job-room);
       hosts = omega (arith, is-base, hosts);
       caused = omega (arith, is-base, is-jobs, is-turns, caused);

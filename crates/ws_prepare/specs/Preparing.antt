@@ -26,7 +26,7 @@ pub record HasTurns (n : ℕ) (t : Tables) : Type 0 where
 
 -- there are places for n answers of hosts, to note n streams, and for the other records that a call or job can make
 pub record HasRecords (n : ℕ) (t : Tables) : Type 0 where
-  pub hosts : n + vec_len t.hosts ≤ vec_capacity t.hosts
+  pub hosts : n + length t.hosts.items ≤ t.hosts.capacity
   pub grown : vec_len t.grown + n ≤ vec_capacity t.grown
   pub full : vec_len t.full < vec_capacity t.full
   pub locks : vec_len t.locks + 2 ≤ vec_capacity t.locks

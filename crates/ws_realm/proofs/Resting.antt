@@ -40,7 +40,7 @@ rests-still t u more rest = record {
 -- and prepared still, where places are left
 pub ready-still : (t : Tables) (u : Table) → Less t.promises.table u → IsPrepared t → IsPrepared (record t { promises = record t.promises { table = u } })
 ready-still t u less ready = record {
-  promises = less-room (places_for 0 8 3 14 t) t.promises u less ready.promises;
+  promises = less-room (places_for 0 8 3 15 t) t.promises u less ready.promises;
   jobs = let a = less.jobs in let h = ready.jobs in omega (arith, a, h);
   hosts = ready.hosts;
   caused = ready.caused;

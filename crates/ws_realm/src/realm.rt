@@ -129,7 +129,8 @@ impl Realm {
     /// took the chunk: it doesn't where the call throws. A refusal changes nothing and drops the chunk: who would have
     /// it back makes the call, or prepares before.
     pub fn enqueue(&mut self, i: StreamId, chunk: Value) -> Result<bool, Why>
-        ensures done { IfOk result (λ done. (done ≡ true) ↔ (run.reply_to (call.Enqueue i chunk) self.old.slots ≡ reply.Done)) }
+        ensures done { IfOk result (λ done.
+            (done ≡ true) ↔ (run.reply_to (call.Enqueue i chunk) self.old.slots ≡ reply.Done)) }
         ensures slots { OnOk result (self.new.slots ≡ run.after_call (call.Enqueue i chunk) self.old.slots) }
         ensures spent { (result ≡ Err why.Spent) ↔ (self.old.slots.age ≡ oldest) }
         ensures untouched { OnErr result (self.new ≡ self.old) }
@@ -140,11 +141,12 @@ impl Realm {
         Ok(perform_enqueue(&mut self.tables, i, chunk))
     }
 
-    /// Performs `Call::Deliver`, as each message of a port meets it. Whether there is such a port: else the call throws.
-    /// What is delivered to one that isn't entangled any more reaches nothing. A refusal changes nothing and drops the
-    /// message: who would have it back makes the call, or prepares before.
+    /// Performs `Call::Deliver`, as each message of a port meets it. Whether there is such a port: else the call
+    /// throws. What is delivered to one that isn't entangled any more reaches nothing. A refusal changes nothing and
+    /// drops the message: who would have it back makes the call, or prepares before.
     pub fn deliver(&mut self, c: PortId, message: Message) -> Result<bool, Why>
-        ensures done { IfOk result (λ done. (done ≡ true) ↔ (run.reply_to (call.Deliver c message) self.old.slots ≡ reply.Done)) }
+        ensures done { IfOk result (λ done.
+            (done ≡ true) ↔ (run.reply_to (call.Deliver c message) self.old.slots ≡ reply.Done)) }
         ensures slots { OnOk result (self.new.slots ≡ run.after_call (call.Deliver c message) self.old.slots) }
         ensures spent { (result ≡ Err why.Spent) ↔ (self.old.slots.age ≡ oldest) }
         ensures untouched { OnErr result (self.new ≡ self.old) }
@@ -162,7 +164,8 @@ impl Realm {
     /// Whether the host had been asked so, and hadn't answered: else the call throws. It takes no memory, so the one
     /// refusal is that of a spent realm, which changes nothing.
     pub fn settle_done(&mut self, h: HostId) -> Result<bool, Why>
-        ensures done { IfOk result (λ done. (done ≡ true) ↔ (run.reply_to (call.Settle h answer.Ok) self.old.slots ≡ reply.Done)) }
+        ensures done { IfOk result (λ done.
+            (done ≡ true) ↔ (run.reply_to (call.Settle h answer.Ok) self.old.slots ≡ reply.Done)) }
         ensures slots { OnOk result (self.new.slots ≡ run.after_call (call.Settle h answer.Ok) self.old.slots) }
         ensures spent { (result ≡ Err why.Spent) ↔ (self.old.slots.age ≡ oldest) }
         ensures alone { IfErr result (λ refused. refused ≡ why.Spent) }

@@ -144,7 +144,7 @@ abbrev pub places_of : Tables → Places
 places_of t =
     record {
       promises = t.promises.room;
-      hosts = vec_capacity t.hosts;
+      hosts = t.hosts.capacity;
       caused = t.caused.capacity;
       others = vec_capacity t.others;
       under_way = t.under_way;
@@ -203,12 +203,13 @@ abbrev pub AreCopied : List Effect → Tables → Type 0
 AreCopied [] t = ⊤
 AreCopied (e ∷ es) t = EachHasCopies (own copies_alone e) t.tees.items × (prices_of copies_alone es ≡ 0)
 
--- there are places for these effects and all that comes of them, and for one more event
+-- there are places for these effects and all that comes of them, and to watch one promise: that takes a place for an event, and one for the
+-- promise where it took none any more
 pub record HasRoomForAll (es : List Effect) (t : Tables) : Type 0 where
-  pub promises : HasPromiseRoom (prices_of promises_alone es + later promises_alone t) t.promises
+  pub promises : HasPromiseRoom (prices_of promises_alone es + later promises_alone t + 1) t.promises
   pub jobs : HasJobRoom (prices_of jobs_alone es + later jobs_alone t) t.promises
   pub events : HasEventRoom (prices_of events_alone es + later events_alone t + 1) t.promises
-  pub hosts : prices_of hosts_alone es + later hosts_alone t + vec_len t.hosts ≤ vec_capacity t.hosts
+  pub hosts : prices_of hosts_alone es + later hosts_alone t + length t.hosts.items ≤ t.hosts.capacity
   pub caused : prices_of turns_alone es + later turns_alone t + 6 ≤ t.caused.capacity
   pub others : prices_of turns_alone es + later turns_alone t + 6 ≤ vec_capacity t.others
   pub lists : EachHasLists (prices_of queued_alone es) (asked es t) (prices_of descriptors_alone es) t.streams.items
@@ -226,9 +227,9 @@ places_for a_wait an_abort a_tee more t = t.waiting * a_wait + t.aborts * an_abo
 
 -- there are places for the next call or job, whichever it is
 pub record IsPrepared (t : Tables) : Type 0 where
-  pub promises : HasRoom (places_for 0 8 3 14 t) t.promises
+  pub promises : HasRoom (places_for 0 8 3 15 t) t.promises
   pub jobs : HasJobRoom (places_for 1 7 5 11 t) t.promises
-  pub hosts : places_for 0 2 2 3 t + vec_len t.hosts ≤ vec_capacity t.hosts
+  pub hosts : places_for 0 2 2 3 t + length t.hosts.items ≤ t.hosts.capacity
   pub caused : places_for 2 14 15 34 t ≤ t.caused.capacity
   pub others : places_for 2 14 15 34 t ≤ vec_capacity t.others
   pub under_way : places_for 2 14 15 34 t ≤ vec_capacity t.under_way

@@ -7,10 +7,8 @@
 //! and cause the first effects. So the fields are public; what holds of them is in `specs/`.
 #![tactic(auto)]
 
-mod hosts;
 mod kinds;
 mod lookups;
 mod tables;
 
-pub use hosts::HostPromise;
 pub use tables::{LIST_PLACES, Stream, Tables};

@@ -1,5 +1,5 @@
 //! Objects of a realm by their numbers; the records of a kind are in `kinds`.
-ghost use Rattle.std.specs.Prelude.{◌≡◌, ◌<◌, IfSome, vec_len};
+ghost use Rattle.std.specs.Prelude.{◌≡◌, ◌<◌, IfSome, length, vec_len};
 ghost use Rattle.ws_steps.specs.Slots.{lock_at, host_at, owner_at, stream_of_request};
 
 use crate::tables::{Stream, Tables};
@@ -34,12 +34,12 @@ impl Tables {
     /// The promise of a call of a host's algorithm, where it isn't settled.
     pub fn host(&self, h: HostId) -> Option<PromiseId>
         ensures host { result ≡ host_at h (slots_of self.now) }
-        ensures there { IfSome result (λ promise. h.0 < vec_len self.now.hosts) }
+        ensures there { IfSome result (λ promise. h.0 < length self.now.hosts.items) }
     {
         if self.hosts.len() as u128 <= h.0 {
             return None;
         }
-        self.hosts[h.0 as usize].promise()
+        self.hosts.promise(h.0 as usize)
     }
 
     /// The stream of a BYOB request.

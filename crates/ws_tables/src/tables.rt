@@ -2,10 +2,10 @@
 ghost use Rattle.std.specs.Prelude.{◌≡◌, IfOk};
 ghost use Rattle.ws_steps.specs.Slots.{empty};
 
-use crate::hosts::HostPromise;
 use std::alloc::Global;
 use ws_byte::ByteStream;
 use ws_cross::Port;
+use ws_hosts::Hosts;
 use ws_pipe::{Pipe, Signal};
 use ws_promise::{Agenda, Promises};
 use ws_readable::Readable;
@@ -38,8 +38,7 @@ pub struct Tables {
     pub signals: Vec<Signal>,
     pub locks: Vec<Lock>,
     pub promises: Promises,
-    /// The promise of each call of a host's algorithm, until the host settles it.
-    pub hosts: Vec<HostPromise>,
+    pub hosts: Hosts,
     /// The stream of each BYOB request.
     pub byob_requests: Vec<StreamId>,
     /// What the effect under way has caused so far.
@@ -83,7 +82,7 @@ impl Tables {
             signals: Vec::new(alloc),
             locks: Vec::new(alloc),
             promises: Promises::make(alloc)?,
-            hosts: Vec::new(alloc),
+            hosts: Hosts::new(alloc),
             byob_requests: Vec::new(alloc),
             caused: Agenda::make(alloc)?,
             others: Vec::new(alloc),

@@ -9,5 +9,5 @@ returns-in-Promise-clause-rest c = record {
   under_way = refl;
   records = record { streams = refl; grown = refl; waiting = refl; pipes = refl; signals = refl; full = refl; aborts = refl; tees = refl; uncopied = refl };
   age = refl;
-  promises = rw c.watch.ensures (watch-more c.in-Promise.promise c.args.tables.now.promises.table);
+  promises = rw c.watch.ensures.table (watch-more c.in-Promise.promise c.args.tables.now.promises.table);
 }

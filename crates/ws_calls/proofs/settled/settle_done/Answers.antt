@@ -35,7 +35,7 @@ pub returns-clause-done : goal.returns-clause-done
 returns-clause-done c = (λ h. done-reply c.args.h c.in-Some.promise (slots_of c.args.tables.now) (there c), λ h. refl)
 
 pub returns-clause-slots : goal.returns-clause-slots
-returns-clause-slots c = rw (c.fulfil.ensures, c.settled.ensures) (sym (done-slots c.args.h c.in-Some.promise (slots_of c.args.tables.now) (there c)))
+returns-clause-slots c = rw (c.fulfil.ensures, c.settle.ensures) (sym (done-slots c.args.h c.in-Some.promise (slots_of c.args.tables.now) (there c)))
 
 pub returns-clause-resting : goal.returns-clause-resting
 returns-clause-resting c =
