@@ -245,12 +245,12 @@ fn all_end_well(alloc: Global, workers: u32) -> Result<bool, NoMemory> {
     Ok(all)
 }
 
-/// That one, two, three and eight workers give the same bytes and statuses in whatever order their nodes have their
-/// turns: each one first, and each one without a turn for a while.
+/// That one to eight workers give the same bytes and statuses in whatever order their nodes have their turns: each one
+/// first, and each one without a turn for a while.
 #[test]
 fn nodes_have_their_turns_in_any_order(rt: HostRuntime) -> Result<(), Fail> {
     let alloc = rt.alloc();
-    for workers in [1, 2, 3, 8] {
+    for workers in 1..=8 {
         let holds = all_end_well(alloc, workers)?;
         assert!(rt; holds, "{workers} workers");
     }
