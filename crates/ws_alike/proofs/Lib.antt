@@ -13,10 +13,12 @@ pub mod Ports
 pub mod Bytes
 pub mod Using
 pub mod Lists
+pub mod Tests
 pub mod Rows
 pub mod Turning
 pub mod Jobs
 pub mod Trimming
+pub mod Tidying
 pub mod Calling
 pub mod Making
 pub mod Called

@@ -1,10 +1,11 @@
 -- Which promises are needed, what is left of the slots of a realm without the others, and which slots are alike.
-use Rattle.std.specs.Prelude.{ℕ, suc, nat_lt, Bool, false, ◌||◌, ◌≡◌, is_some, if◌then◌else◌, List, [], ◌∷◌, Option, Some, None}
+use Rattle.std.specs.Prelude.{ℕ, suc, nat_lt, ◌+◌, ◌<◌, ◌≤◌, Bool, true, false, not, ◌||◌, ◌≡◌, is_some, if◌then◌else◌, List, [], ◌∷◌, Option, Some, None}
 use Rattle.ws_value.specs.declared.ids.PromiseId.{PromiseId}
 use Rattle.ws_steps.specs.declared.calls.Call.{Call}
+use Rattle.ws_value.specs.declared.value.Outcome.{Outcome}
 use Rattle.ws_value.specs.declared.value.Outcome.TheVariants.{Fulfilled}
 use Rattle.ws_value.specs.declared.value.Plain.TheVariants.{Undefined}
-use Rattle.ws_steps.specs.Promises.{Entry, ended, entry_at, is_pending, with_entry}
+use Rattle.ws_steps.specs.Promises.{Entry, Table, ended, entry_at, is_pending, with_entry}
 use Rattle.ws_steps.specs.Run.{Entry as Step, reply_to, after_call, after_job, after_event, run, step}
 use Rattle.ws_steps.specs.Slots.{Slots, with_promises}
 use Rattle.ws_alike.specs.Named.{in_slots}
@@ -13,9 +14,48 @@ use Rattle.ws_alike.specs.Named.{in_slots}
 abbrev pub is_needed : PromiseId → Slots → Entry → Bool
 is_needed p s e = is_pending e.outcome || (is_some e.rank || nat_lt 0 (in_slots p s))
 
+abbrev pub is_undefined : Outcome → Bool
+is_undefined (Fulfilled Undefined) = true
+is_undefined _ = false
+
 -- what stands for one that isn't: a promise that was fulfilled with undefined while nobody watched it
 abbrev pub forgotten : Entry
 forgotten = ended (Fulfilled Undefined)
+
+-- whether it has settled and nobody watches it: then it is needed only where it is named
+abbrev pub is_loose : Entry → Bool
+is_loose e = not (is_pending e.outcome || is_some e.rank)
+
+abbrev pub release_entry : PromiseId → Table → Option Entry → Table
+release_entry p t None = t
+release_entry p t (Some e) = if is_loose e then with_entry p (Some forgotten) t else t
+
+-- a promise that has settled and that nobody watches is released; its number isn't used again
+abbrev pub release : PromiseId → Table → Table
+release p t = release_entry p t (entry_at t p)
+
+-- of the promises with numbers from lo on and below hi none is to be released
+abbrev pub NoneLoose : ℕ → ℕ → Table → Type 0
+NoneLoose lo hi t =
+    (p : PromiseId) (e : Entry) → lo ≤ p.0 → p.0 < hi → entry_at t p ≡ Some e → is_loose e ≡ true → e ≡ forgotten
+
+-- whether a promise is kept, as any but one that was fulfilled with undefined while nobody watched it
+abbrev pub is_kept : Option Entry → Bool
+is_kept None = false
+is_kept (Some e) = is_pending e.outcome || (is_some e.rank || not (is_undefined e.outcome))
+
+abbrev pub kept_in : List (Option Entry) → ℕ
+kept_in [] = 0
+kept_in (e ∷ es) = (if is_kept e then 1 else 0) + kept_in es
+
+-- how many promises the slots keep
+abbrev pub kept : Slots → ℕ
+kept s = kept_in s.promises.entries
+
+-- each promise that is kept is needed
+abbrev pub EachKeptIsNeeded : Slots → Type 0
+EachKeptIsNeeded s =
+    (p : PromiseId) (e : Entry) → entry_at s.promises p ≡ Some e → is_kept (Some e) ≡ true → is_needed p s e ≡ true
 
 abbrev pub trimmed_entry : PromiseId → Slots → Option Entry → Option Entry
 trimmed_entry p s None = None
@@ -45,6 +85,9 @@ EachEventIsAlike = (s t : Slots) → Alike s t → Alike (after_event s) (after_
 
 abbrev pub EachRunIsAlike : Type 0
 EachRunIsAlike = (xs : List Step) (s t : Slots) → Alike s t → Alike (run xs s) (run xs t)
+
+abbrev pub TrimKeepsTheNeeded : Type 0
+TrimKeepsTheNeeded = (s : Slots) → EachKeptIsNeeded (trim s)
 
 abbrev pub TrimIsAlike : Type 0
 TrimIsAlike = (s : Slots) → Alike (trim s) s

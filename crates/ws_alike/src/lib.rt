@@ -4,11 +4,18 @@
 //! slots are alike where they differ in promises alone that aren't needed.
 #![tactic(auto)]
 
+mod named;
+
 ghost use Rattle.ws_alike.specs.Alike.{EachCallIsAlike, EachEventIsAlike, EachJobIsAlike, EachRunIsAlike, EachWatchedIsAlike};
-ghost use Rattle.ws_alike.specs.Alike.{ForgettingIsAlike, TrimIsAlike, UnneededStays};
+ghost use Rattle.ws_alike.specs.Alike.{ForgettingIsAlike, TrimIsAlike, TrimKeepsTheNeeded, UnneededStays};
 ghost use Rattle.ws_alike.specs.Blind.{EachByteOperationIsBlind, EachOperationIsBlind, EachPerformanceIsBlind, EachPipeOperationIsBlind};
 ghost use Rattle.ws_alike.specs.Blind.{EachPortOperationIsBlind, EachReadableOperationIsBlind, EachRowIsBlind, EachTeeOperationIsBlind};
 ghost use Rattle.ws_alike.specs.Blind.{EachTransformOperationIsBlind, EachWritableOperationIsBlind};
+
+pub use named::{
+    abort_names, is_this, job_names, lock_names, option_names, reaction_names, request_names,
+    step_names, writer_names,
+};
 
 /// An operation on one promise doesn't look at another one, and leaves it alone.
 ///
@@ -106,6 +113,13 @@ pub fn forgetting_is_alike()
 /// Of: promises, realms.
 pub fn trim_is_alike()
     ensures { TrimIsAlike }
+{}
+
+/// Of what is left of slots without the promises that aren't needed, each promise that is kept is needed.
+///
+/// Of: promises, realms.
+pub fn trim_keeps_the_needed()
+    ensures { TrimKeepsTheNeeded }
 {}
 
 /// Alike slots give the same reply to a call, and are alike after it.
