@@ -53,6 +53,16 @@ module _ {T : Type 0} where
           let differs : q.number ≢ n = λ e. absurd (omega (arith, e, h.0)) in
           rw (unequal q.number n differs) rest
 
+  -- a number whose pairs have no place has no value
+  pub value-gone : (n : ℕ) (qs : List Pair) (ss : List (Option T)) → ((j : ℕ) (q : Pair) → slice_get qs j ≡ Some q → q.number ≡ n → q.place ≡ None) → value_in n (kept_of qs ss) ≡ None
+  value-gone n [] ss h = refl
+  value-gone n (q ∷ qs) ss h = after (q.number == n) refl (value_at q.place ss) refl (value-gone n qs ss (λ j r g e. h (suc j) r g e))
+    where
+      after : (c : Bool) → (q.number == n) ≡ c → (o : Option T) → value_at q.place ss ≡ o → value_in n (kept_of qs ss) ≡ None → value_in n (kept_by q.number (value_at q.place ss) ++ kept_of qs ss) ≡ None
+      after true e o v rest = let here : q.place ≡ None = h 0 q refl (grind arith) in rw here rest
+      after false e None v rest = rw v rest
+      after false e (Some w) v rest = rw (v, e) rest
+
   pub value-there : (lo hi i : ℕ) (qs : List Pair) (q : Pair) (ss : List (Option T)) → Rising lo hi qs → slice_get qs i ≡ Some q → value_in q.number (kept_of qs ss) ≡ value_at q.place ss
   value-there lo hi i [] q ss h g = cc
   value-there lo hi zero (x ∷ qs) q ss h g =
@@ -236,3 +246,16 @@ module _ {T : Type 0} where
       past : (u : Option T) → put_in n v (kept_by x.number u ++ kept_of qs ss) ≡ kept_by x.number u ++ put_in n v (kept_of qs ss)
       past None = refl
       past (Some u) = rw not-less refl
+
+  -- there are no more values than pairs
+
+  length-kept : (qs : List Pair) (ss : List (Option T)) → length (kept_of qs ss) ≤ length qs
+  length-kept [] ss = omega arith
+  length-kept (q ∷ qs) ss = after (value_at q.place ss) (length-kept qs ss)
+    where
+      after : (o : Option T) → length (kept_of qs ss) ≤ length qs → length (kept_by q.number o ++ kept_of qs ss) ≤ suc (length qs)
+      after None rest = omega (arith, rest)
+      after (Some v) rest = omega (arith, rest)
+
+  pub kept-most : (qs : List Pair) (ss : List (Option T)) (xs : List (ℕ × T)) (n : ℕ) → kept_of qs ss ≡ xs → n ≡ length qs → length xs ≤ n
+  kept-most qs ss xs n e is = let most = length-kept qs ss in rw (← e) (omega (arith, most, is))

@@ -3,3 +3,4 @@ pub mod KeptLemmas
 pub mod OrderLemmas
 pub mod SoundLemmas
 pub mod ValueLemmas
+pub mod ShelfLemmas

@@ -11,7 +11,7 @@ pub rising-from : (lo ko hi : ℕ) (qs : List Pair) → ko ≤ lo → Rising lo 
 rising-from lo ko hi [] l h = tt
 rising-from lo ko hi (q ∷ qs) l h = (omega (arith, h.0), h.1, h.2)
 
-rising-to : (lo hi ho : ℕ) (qs : List Pair) → hi ≤ ho → Rising lo hi qs → Rising lo ho qs
+pub rising-to : (lo hi ho : ℕ) (qs : List Pair) → hi ≤ ho → Rising lo hi qs → Rising lo ho qs
 rising-to lo hi ho [] l h = tt
 rising-to lo hi ho (q ∷ qs) l h = (h.0, omega (arith, h.1), rising-to (suc q.number) hi ho qs l h.2)
 
@@ -26,7 +26,7 @@ rising-least lo hi (suc i) (r ∷ qs) q h g =
     omega (arith, h.0, later)
 
 -- one that stands later has a greater number
-rising-index : (lo hi i j : ℕ) (qs : List Pair) (q r : Pair) → Rising lo hi qs → i < j → slice_get qs i ≡ Some q → slice_get qs j ≡ Some r → q.number < r.number
+pub rising-index : (lo hi i j : ℕ) (qs : List Pair) (q r : Pair) → Rising lo hi qs → i < j → slice_get qs i ≡ Some q → slice_get qs j ≡ Some r → q.number < r.number
 rising-index lo hi i j [] q r h l a b = cc
 rising-index lo hi i zero (x ∷ qs) q r h l a b = absurd (omega (arith, l))
 rising-index lo hi zero (suc j) (x ∷ qs) q r h l a b =
@@ -110,3 +110,27 @@ below lo hi m j n qs q r h a less b l =
 -- what a read of a pair gives
 pub pair-read : (qs : List Pair) (n i : ℕ) (q : Pair) → n ≡ length qs → i < n → q ≡ get_or qs i q → slice_get qs i ≡ Some q
 pair-read qs n i q l h g = slice_get_read qs n i q l h g
+
+-- the pair at an index
+pub pair-at : (qs : List Pair) (i : ℕ) → i < length qs → (q : Pair) × (slice_get qs i ≡ Some q)
+pair-at [] i l = absurd (omega (arith, l))
+pair-at (q ∷ qs) zero l = (q, refl)
+pair-at (q ∷ qs) (suc i) l = pair-at qs i (omega (arith, l))
+
+pub before-found : (hi i n : ℕ) (qs : List Pair) → Rising 0 hi qs → i < length qs → ((r : Pair) → slice_get qs i ≡ Some r → r.number ≡ n)
+    → (j : ℕ) (q : Pair) → slice_get qs j ≡ Some q → j < i → q.number < n
+before-found hi i n qs h w is j q g l =
+    let r = pair-at qs i w in
+    let k = rising-index 0 hi j i qs q r.0 h l g r.1 in
+    let e = is r.0 r.1 in
+    omega (arith, k, e)
+
+pub after-found : (hi i n : ℕ) (qs : List Pair) → Rising 0 hi qs → i < length qs → ((r : Pair) → slice_get qs i ≡ Some r → r.number ≡ n)
+    → (j : ℕ) (q : Pair) → slice_get qs j ≡ Some q → i ≤ j → n ≤ q.number
+after-found hi i n qs h w is j q g l = elim (cases_eq i j) [
+  | inl e ↦ let f = is q (rw e g) in omega (arith, f)
+  | inr d ↦
+      let r = pair-at qs i w in
+      let k = rising-index 0 hi i j qs r.0 q h (omega (arith, l, d)) r.1 g in
+      let f = is r.0 r.1 in omega (arith, k, f)
+]

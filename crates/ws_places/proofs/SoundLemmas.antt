@@ -1,14 +1,24 @@
 -- What is kept by each change of the pairs and of the places, and what a call finds.
-use Rattle.std.proofs.Common.{◌≡◌, ◌≢◌, ◌∙◌, ℕ, ◌+◌, ◌<◌, ◌≤◌, List, [], ◌∷◌, ◌++◌, length, Option, Some, None, refl, sym, arith, inl, inr}
+use Rattle.std.proofs.Common.{◌≡◌, suc, zero, ap, ◌≢◌, ◌∙◌, ℕ, ◌+◌, ◌<◌, ◌≤◌, List, [], ◌∷◌, ◌++◌, length, Option, Some, None, refl, sym, arith, inl, inr}
 use Rattle.std.proofs.lemmas.Bool.{cases_lt}
 use Rattle.std.specs.List.{insert}
-use Rattle.std.specs.Prelude.{filter, slice_get, slice_set, slice_index_or}
+use Rattle.std.specs.Prelude.{IsSome, filter, slice_get, slice_set, slice_index_or}
 use Rattle.ws_places.specs.declared.places.Pair.{Pair}
 use Rattle.ws_places.specs.Pairs.{value_at, kept_of, IsSound}
 use Rattle.ws_places.specs.Seen.{value_in, without, with_value, put_in}
-use Rattle.ws_places.proofs.OrderLemmas.{rising-below, rising-push, rising-set, is_held, rising-filter, rising-inserted}
+use Rattle.ws_places.proofs.OrderLemmas.{rising-below, rising-to, rising-push, rising-set, is_held, rising-filter, rising-inserted, after-found}
 use Rattle.ws_places.proofs.HeldLemmas.{held-not_at, held-same, apart-push, held-push, apart-set, held-released, apart-filter, held-filter, held-written, apart-again, held-again, apart-inserted, held-inserted, held-index, some-within, some-value, set-here, set-there}
-use Rattle.ws_places.proofs.KeptLemmas.{value-there, value-none, kept-released, kept-written, kept-again, kept-inserted}
+use Rattle.ws_places.proofs.KeptLemmas.{value-gone, value-there, value-none, kept-released, kept-written, kept-again, kept-inserted}
+
+index-less : (qs : List Pair) (i : ℕ) (q : Pair) → slice_get qs i ≡ Some q → i < length qs
+index-less [] i q g = cc
+index-less (x ∷ qs) zero q g = omega arith
+index-less (x ∷ qs) (suc i) q g = let l = index-less qs i q g in omega (arith, l)
+
+same-number : (qs : List Pair) (i : ℕ) (q : Pair) → slice_get qs i ≡ Some q → (r : Pair) → slice_get qs i ≡ Some r → r.number ≡ q.number
+same-number [] i q g r f = cc
+same-number (x ∷ qs) zero q g r f = let is : r ≡ q = cc in ap (λ (y : Pair). y.number) is
+same-number (x ∷ qs) (suc i) q g r f = same-number qs i q g r f
 
 module _ {T : Type 0} where
   pub sound-push : (n k : ℕ) (v : T) (qs : List Pair) (ss ts : List (Option T)) → IsSound qs ss n → slice_index_or ss k None ≡ None → slice_index_or ts k None ≡ Some v
@@ -102,3 +112,31 @@ module _ {T : Type 0} where
 
   pub not-given : (next : ℕ) (qs : List Pair) (ss : List (Option T)) (xs : List (ℕ × T)) → IsSound qs ss next → kept_of qs ss ≡ xs → value_in next xs ≡ None
   not-given next qs ss xs s kept = rw (← kept) (value-none next qs ss (λ i q g e. absurd (omega (arith, e, rising-below 0 next i qs q s.rising g))))
+
+  -- looking on from a number
+  pub none-from : (n start : ℕ) (qs : List Pair) (ss : List (Option T)) (xs : List (ℕ × T)) → ((j : ℕ) (q : Pair) → slice_get qs j ≡ Some q → j < start → q.number < n) → ((j : ℕ) (q : Pair) → slice_get qs j ≡ Some q → start ≤ j → q.place ≡ None)
+      → kept_of qs ss ≡ xs → (m : ℕ) → n ≤ m → value_in m xs ≡ None
+  none-from n start qs ss xs before gone kept m h =
+      rw (← kept) (value-gone m qs ss (λ j q g e. elim (cases_lt j start) [
+        | inl l ↦ absurd (omega (arith, before j q g l, e, h))
+        | inr l ↦ gone j q g (omega (arith, l))
+      ]))
+
+  pub some-from : (next n start i : ℕ) (qs : List Pair) (q : Pair) (ss : List (Option T)) (xs : List (ℕ × T)) → IsSound qs ss next → slice_get qs i ≡ Some q → IsSome q.place
+      → ((j : ℕ) (q : Pair) → slice_get qs j ≡ Some q → j < start → q.number < n) → ((j : ℕ) (q : Pair) → slice_get qs j ≡ Some q → start ≤ j → j < i → q.place ≡ None) → kept_of qs ss ≡ xs
+      → IsSome (value_in q.number xs) × ((m : ℕ) → n ≤ m → m < q.number → value_in m xs ≡ None)
+  some-from next n start i qs q ss xs s g there before gone kept =
+      let k = some-value q.place there in
+      let held = held-index i k.0 qs q ss s.held g k.1 in (
+        rw (found next i q.number qs q ss (Some k.0) xs s g refl k.1 kept) held,
+        λ m h l. rw (← kept) (value-gone m qs ss (λ j r f e. elim (cases_lt j start) [
+          | inl a ↦ absurd (omega (arith, before j r f a, e, h))
+          | inr a ↦ elim (cases_lt j i) [
+            | inl b ↦ gone j r f (omega (arith, a)) b
+            | inr b ↦ absurd (let up = after-found next i q.number qs s.rising (index-less qs i q g) (same-number qs i q g) j r f (omega (arith, b)) in omega (arith, up, e, l))
+          ]
+        ])),
+      )
+
+  pub sound-later : (next later : ℕ) (qs : List Pair) (ss : List (Option T)) → next ≤ later → IsSound qs ss next → IsSound qs ss later
+  sound-later next later qs ss l s = record { rising = rising-to 0 next later qs l s.rising; apart = s.apart; held = s.held }

@@ -1,12 +1,12 @@
 //! Values by number, each in a place that is used again.
-ghost use Rattle.std.specs.Prelude.{◌≡◌, ◌≢◌, ◌<◌, ◌≤◌, ◌+◌, ◌-◌, ◌^◌, ℕ, [], ◌∷◌, ◌++◌, IfOk, IfErr, IsOk, OnOk, Some, None, option_copied, slice_get, vec_len, vec_capacity};
+ghost use Rattle.std.specs.Prelude.{◌≡◌, ◌≢◌, ◌<◌, ◌≤◌, ◌+◌, ◌-◌, ◌^◌, ℕ, [], ◌∷◌, ◌++◌, IfOk, IfErr, IfSome, IfNone, IsOk, IsSome, OnOk, Some, None, length, option_copied, slice_get, vec_len, vec_capacity};
 ghost use Rattle.std.specs.Borrow.{sem};
 ghost use Rattle.std.specs.Option.{option_copied_mut};
 ghost use Rattle.ws_places.specs.Pairs.{Rising};
 ghost use Rattle.ws_places.specs.Seen.{put_in, value_in, without};
 ghost use Rattle.ws_places.specs.declared.places.Pair.{Pair as PairOf};
 
-use slab::Slab;
+use crate::shelf::Shelf;
 use std::alloc::Global;
 use std::marker::Model;
 use ws_value::NoMemory;
@@ -24,13 +24,12 @@ pub struct Pair {
 #[derive(Drop)]
 pub struct Places<T> {
     pairs: Vec<Pair>,
-    values: Slab<T>,
+    values: Shelf<T>,
     next: usize,
 }
 
 impl<T> Model for Places<T> {
     ghost use Rattle.std.specs.Prelude.{◌-◌, min, vec_len, vec_capacity};
-    ghost use Rattle.slab.specs.Slab.{slab_len};
     ghost use Rattle.ws_places.specs.Seen.{SeenPlaces};
     ghost use Rattle.ws_places.specs.Pairs.{IsSound, kept_of};
 
@@ -39,7 +38,7 @@ impl<T> Model for Places<T> {
     ghost view = { λ a. record {
       kept = kept_of a.pairs.items a.values.slots;
       next = a.next;
-      spare = min (vec_capacity a.pairs - vec_len a.pairs) (a.values.capacity - slab_len a.values);
+      spare = min (vec_capacity a.pairs - vec_len a.pairs) a.values.spare;
     } };
 
     ghost invariant = { λ a. IsSound a.pairs.items a.values.slots a.next };
@@ -48,7 +47,7 @@ impl<T> Model for Places<T> {
 /// Where the pair of this number stands, or where it would stand. Numbers are given one after another, so a pair that
 /// came since the pairs were swept last stands as far before the end as its number is before the next one. Any other is
 /// found by halving.
-#[inline]
+#[inline(always)]
 fn find(pairs: &Vec<Pair>, next: usize, number: usize) -> Result<usize, usize>
     requires { (hi : ℕ) × Rising 0 hi pairs.now.items }
     ensures found { IfOk result (λ i. (i < vec_len pairs.now)
@@ -92,6 +91,36 @@ fn halve(pairs: &Vec<Pair>, number: usize) -> Result<usize, usize>
     Err(low)
 }
 
+/// Where the pairs of the numbers from this one on begin.
+fn start_of(pairs: &Vec<Pair>, number: usize) -> usize
+    requires { (hi : ℕ) × Rising 0 hi pairs.now.items }
+    ensures within { result ≤ vec_len pairs.now }
+    ensures before { (j : ℕ) (q : PairOf) → slice_get pairs.now.items j ≡ Some q → j < result → q.number < number }
+    ensures after { (j : ℕ) (q : PairOf) → slice_get pairs.now.items j ≡ Some q → result ≤ j → number ≤ q.number }
+{
+    match halve(pairs, number) {
+        Ok(i) => i,
+        Err(i) => i,
+    }
+}
+
+/// The index from this one on of the first pair that has a place.
+fn next_held(pairs: &Vec<Pair>, start: usize) -> Option<usize>
+    ensures some { IfSome result (λ i. (start ≤ i) × (i < vec_len pairs.now)
+        × ((q : PairOf) → slice_get pairs.now.items i ≡ Some q → IsSome q.place)
+        × ((j : ℕ) (q : PairOf) → slice_get pairs.now.items j ≡ Some q → start ≤ j → j < i → q.place ≡ None)) }
+    ensures none { IfNone result ((j : ℕ) (q : PairOf) → slice_get pairs.now.items j ≡ Some q → start ≤ j → q.place ≡ None) }
+{
+    let mut i = start;
+    while i < pairs.len() {
+        if pairs[i].place.is_some() {
+            return Some(i);
+        }
+        i += 1;
+    }
+    None
+}
+
 impl<T: Drop> Places<T> {
     ghost use Rattle.ws_places.specs.Lends.{lends_value};
 
@@ -102,7 +131,7 @@ impl<T: Drop> Places<T> {
     {
         Places {
             pairs: Vec::new(alloc),
-            values: Slab::new(alloc),
+            values: Shelf::make(alloc),
             next: 0,
         }
     }
@@ -132,6 +161,7 @@ impl<T: Drop> Places<T> {
     }
 
     /// The number that is given next.
+    #[inline(always)]
     pub fn next(&self) -> usize
         ensures { result ≡ self.now.next }
     {
@@ -139,6 +169,7 @@ impl<T: Drop> Places<T> {
     }
 
     /// Keeps a value under a new number.
+    #[inline(always)]
     pub fn keep(&mut self, value: T) -> usize
         requires room { 1 ≤ self.old.spare }
         requires few { self.old.next + 1 < 2 ^ 64 }
@@ -149,7 +180,7 @@ impl<T: Drop> Places<T> {
         ensures spare { self.new.spare + 1 ≡ self.old.spare }
     {
         let number = self.next;
-        let place = self.values.insert_reserved(value);
+        let place = self.values.put(value);
         self.pairs.push_reserved(Pair {
             number,
             place: Some(place),
@@ -159,44 +190,95 @@ impl<T: Drop> Places<T> {
     }
 
     /// The value of this number, where it is kept.
+    #[inline(always)]
     pub fn get(&self, number: usize) -> Option<&T>
         ensures { option_copied result ≡ value_in number self.now.kept }
     {
         match find(&self.pairs, self.next, number) {
             Ok(i) => match self.pairs[i].place {
-                Some(place) => self.values.get(place),
+                Some(place) => Some(self.values.get(place)),
                 None => None,
             },
             Err(_) => None,
         }
     }
 
-    /// Lets go of the value of this number, where it is kept.
-    pub fn release(&mut self, number: usize) -> Option<T>
-        ensures value { result ≡ value_in number self.old.kept }
+    /// Lets go of the value of this number, where it is kept. It lies there until another takes its place.
+    #[inline(always)]
+    pub fn release(&mut self, number: usize)
         ensures kept { self.new.kept ≡ without number self.old.kept }
         ensures next { self.new.next ≡ self.old.next }
         ensures spare { self.old.spare ≤ self.new.spare }
     {
         let Ok(i) = find(&self.pairs, self.next, number) else {
-            return None;
+            return;
         };
         let Some(place) = self.pairs[i].place else {
-            return None;
+            return;
         };
         self.pairs[i].place = None;
-        self.values.try_remove(place)
+        self.values.let_go(place);
+    }
+
+    /// Whether this number is found without halving.
+    #[inline(always)]
+    pub fn is_recent(&self, number: usize) -> bool {
+        let i = self
+            .pairs
+            .len()
+            .wrapping_sub(self.next.wrapping_sub(number));
+        if i < self.pairs.len() {
+            self.pairs[i].number == number
+        } else {
+            false
+        }
+    }
+
+    /// No fewer than there are values.
+    #[inline(always)]
+    pub fn most(&self) -> usize
+        ensures { length self.now.kept ≤ result }
+    {
+        self.pairs.len()
+    }
+
+    /// This number, and those before it, count as given.
+    #[inline(always)]
+    pub fn pass(&mut self, number: usize)
+        requires { number + 1 < 2 ^ 64 }
+        ensures kept { self.new.kept ≡ self.old.kept }
+        ensures spare { self.new.spare ≡ self.old.spare }
+        ensures given { number < self.new.next }
+    {
+        if self.next <= number {
+            self.next = number + 1;
+        }
+    }
+
+    /// The least number from this one on whose value is kept.
+    pub fn kept_from(&self, number: usize) -> Option<usize>
+        ensures some { IfSome result (λ n. (number ≤ n) × (n < self.now.next) × IsSome (value_in n self.now.kept)
+            × ((m : ℕ) → number ≤ m → m < n → value_in m self.now.kept ≡ None)) }
+        ensures none { IfNone result ((m : ℕ) → number ≤ m → value_in m self.now.kept ≡ None) }
+    {
+        let start = start_of(&self.pairs, number);
+        match next_held(&self.pairs, start) {
+            Some(i) => Some(self.pairs[i].number),
+            None => None,
+        }
     }
 
     /// How many more values there are places for.
+    #[inline(always)]
     pub fn spare(&self) -> usize
         ensures { result ≡ self.now.spare }
     {
         let pairs = self.pairs.capacity() - self.pairs.len();
-        pairs.min(self.values.capacity() - self.values.len())
+        pairs.min(self.values.spare())
     }
 
     /// The value of this number, where it is kept, to be written.
+    #[inline(always)]
     pub fn get_mut(&mut self, number: usize) -> Option<&mut T>
         ensures* writes_back { sem 𝓛 (lends_value T.row self.entry number result) }
         ensures value { option_copied_mut result ≡ value_in number self.old.kept }
@@ -207,7 +289,7 @@ impl<T: Drop> Places<T> {
         let Some(place) = self.pairs[i].place else {
             return None;
         };
-        self.values.get_mut(place)
+        Some(self.values.get_mut(place))
     }
 
     /// Keeps a value under a number that was given before and has none.
@@ -219,7 +301,7 @@ impl<T: Drop> Places<T> {
         ensures next { self.new.next ≡ self.old.next }
         ensures spare { self.old.spare ≤ self.new.spare + 1 }
     {
-        let place = self.values.insert_reserved(value);
+        let place = self.values.put(value);
         match find(&self.pairs, self.next, number) {
             Ok(i) => self.pairs[i].place = Some(place),
             Err(i) => {

@@ -34,6 +34,7 @@ impl<T: Drop> Ring<T> {
     }
 
     /// The number of items.
+    #[inline]
     pub fn len(&self) -> usize
         ensures len { result ≡ length self.now.items }
         ensures within { (result ≤ self.now.capacity) × (self.now.capacity < 2 ^ 63) }
@@ -44,6 +45,7 @@ impl<T: Drop> Ring<T> {
         }
     }
 
+    #[inline]
     pub fn is_empty(&self) -> bool
         ensures { result ≡ (length self.now.items == 0) }
     {
@@ -51,6 +53,7 @@ impl<T: Drop> Ring<T> {
     }
 
     /// For how many items there are places.
+    #[inline]
     pub fn capacity(&self) -> usize
         ensures capacity { result ≡ self.now.capacity }
         ensures within { (length self.now.items ≤ result) × (result < 2 ^ 63) }
@@ -62,6 +65,7 @@ impl<T: Drop> Ring<T> {
     }
 
     /// For how many more items there are places.
+    #[inline]
     pub fn free(&self) -> usize
         ensures free { result ≡ self.now.capacity - length self.now.items }
         ensures within { (length self.now.items ≤ self.now.capacity) × (self.now.capacity < 2 ^ 63) }
@@ -102,6 +106,7 @@ impl<T: Drop> Ring<T> {
     }
 
     /// The first item.
+    #[inline]
     pub fn front(&self) -> Option<&T>
         ensures { option_copied result ≡ slice_get self.now.items 0 }
     {
@@ -111,7 +116,18 @@ impl<T: Drop> Ring<T> {
         }
     }
 
+    /// The item at an index from the front.
+    pub fn get(&self, index: usize) -> Option<&T>
+        ensures { option_copied result ≡ slice_get self.now.items index }
+    {
+        match &self.buffer {
+            Some(buffer) => buffer.get(index),
+            None => None,
+        }
+    }
+
     /// Puts an item at the end.
+    #[inline]
     pub fn push_back_reserved(&mut self, item: T)
         requires { length self.old.items < self.old.capacity }
         ensures items { self.new.items ≡ self.old.items ++ item ∷ [] }
@@ -124,6 +140,7 @@ impl<T: Drop> Ring<T> {
     }
 
     /// Puts an item at the front.
+    #[inline]
     pub fn push_front_reserved(&mut self, item: T)
         requires { length self.old.items < self.old.capacity }
         ensures items { self.new.items ≡ item ∷ self.old.items }
@@ -136,6 +153,7 @@ impl<T: Drop> Ring<T> {
     }
 
     /// Takes the first item.
+    #[inline]
     pub fn pop_front(&mut self) -> Option<T>
         ensures value { result ≡ slice_get self.old.items 0 }
         ensures items { self.old.items ≡ option_to_list result ++ self.new.items }

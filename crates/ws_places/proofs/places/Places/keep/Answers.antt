@@ -7,16 +7,16 @@ use Rattle.ws_places.proofs.places.Places.keep.Goals as goal
 pub invariant_of-self : goal.invariant_of-self
 invariant_of-self g c =
     let a = c.self.inside in
-    let k = c.insert_reserved-place.result in
-    let ss = c.insert_reserved-place.new.self.slots in
-    rw c.push_reserved.ensures.items (sound-push a.next k c.args.value a.pairs.items a.values.slots ss c.self.invariant c.insert_reserved-place.ensures.was_vacant c.insert_reserved-place.ensures.updates.changed c.insert_reserved-place.ensures.updates.others)
+    let k = c.put-place.result in
+    let ss = c.put-place.new.self.slots in
+    rw c.push_reserved.ensures.items (sound-push a.next k c.args.value a.pairs.items a.values.slots ss c.self.invariant c.put-place.ensures.was_vacant c.put-place.ensures.changed c.put-place.ensures.others)
 
 pub returns-clause-kept : goal.returns-clause-kept
 returns-clause-kept g c =
     let a = c.self.inside in
-    let k = c.insert_reserved-place.result in
-    let ss = c.insert_reserved-place.new.self.slots in
-    rw (c.push_reserved.ensures.items, ← c.self.view_is) (kept-push a.next k c.args.value a.pairs.items a.values.slots ss c.self.invariant.held c.insert_reserved-place.ensures.was_vacant c.insert_reserved-place.ensures.updates.changed c.insert_reserved-place.ensures.updates.others)
+    let k = c.put-place.result in
+    let ss = c.put-place.new.self.slots in
+    rw (c.push_reserved.ensures.items, ← c.self.view_is) (kept-push a.next k c.args.value a.pairs.items a.values.slots ss c.self.invariant.held c.put-place.ensures.was_vacant c.put-place.ensures.changed c.put-place.ensures.others)
 
 pub returns-clause-none : goal.returns-clause-none
 returns-clause-none g c =
