@@ -1,7 +1,7 @@
 use Rattle.std.proofs.Common.{◌≤◌, ◌+◌, length, arith}
 use Rattle.ws_steps.specs.Places.{unnoted_in}
-use Rattle.ws_promise.specs.View.{all_waiting, entries_from}
-use Rattle.ws_promise.proofs.EntryLemmas.{length-entries_from}
+use Rattle.ws_slots.specs.View.{all_waiting, entries_from}
+use Rattle.ws_slots.proofs.EntryLemmas.{length-entries_from}
 use Rattle.ws_promise.proofs.RoomLemmas.{events_fit}
 use Rattle.ws_promise.proofs.promises.Promises.watch.Goals as goal
 

@@ -1,0 +1,14 @@
+pub mod WaitingLemmas
+pub mod CountedLemmas
+pub mod EntryLemmas
+pub mod AllWaitLemmas
+pub mod TableLemmas
+pub mod WatchLemmas
+pub mod CountLemmas
+pub mod ItemLemmas
+pub mod SpentLemmas
+pub mod FirstLemmas
+pub mod WaitFirstLemmas
+pub mod ReleaseLemmas
+pub mod NameLemmas
+pub mod KeptLemmas

@@ -1,0 +1,16 @@
+//! The slots of promises in few bytes, the reactions that wait, and the operations on them.
+#![tactic(auto)]
+
+mod needed;
+mod places;
+mod slots;
+mod spent;
+mod waiting;
+mod watched;
+
+pub use needed::{count_kept, firsts_name, release, waiting_names};
+pub use places::{answer, drop_job, follow, register, register_step, settle};
+pub use slots::{Open, Settled, Slots, is_recent, outcome_at, pending_slot, rank_at};
+pub use spent::spent_from;
+pub use waiting::Waiting;
+pub use watched::{Settling, note, watch};
