@@ -8,6 +8,7 @@ mod controller;
 mod descriptor;
 mod enqueue;
 mod look;
+mod named;
 mod operations;
 mod process;
 mod pull_into;

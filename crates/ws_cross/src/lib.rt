@@ -4,6 +4,7 @@
 
 mod deliver;
 mod leave;
+mod named;
 mod operations;
 mod port;
 mod write;

@@ -7,6 +7,7 @@ mod chunks;
 mod ends;
 mod finish;
 mod look;
+mod named;
 mod operations;
 mod pipe;
 mod shutdown;

@@ -4,6 +4,7 @@
 
 mod controller;
 mod look;
+mod named;
 mod operations;
 mod parts;
 mod reader;

@@ -4,6 +4,7 @@
 
 mod cancel;
 mod hand;
+mod named;
 mod operations;
 mod reading;
 mod tee;

@@ -8,6 +8,7 @@ mod chunks;
 mod controller;
 mod finish;
 mod halves;
+mod named;
 mod operations;
 mod transform;
 

@@ -6,6 +6,7 @@ mod backpressure;
 mod controller;
 mod erroring;
 mod look;
+mod named;
 mod operations;
 mod reactions;
 mod requests;
