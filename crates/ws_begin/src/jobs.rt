@@ -174,7 +174,7 @@ pub fn begin_job(tables: &mut Tables) -> bool
     ensures begins { Begins (jobs.begin_job (slots_of tables.old)) tables.old tables.new }
 {
     match tables.promises.first_job() {
-        Some(job) => cause_job(&mut tables.caused, job),
+        Some(job) => cause_job(&mut tables.caused, &job),
         None => return false,
     }
     tables.promises.drop_first_job();

@@ -1,11 +1,11 @@
 -- The one effect of a job is performed at once: there are places for it and for all that comes of it.
-use Rattle.std.proofs.Common.{◌≡◌, ◌∙◌, true, false, List, [], ◌∷◌, ◌++◌, Option, Some, None, refl, sym, ap, subst, arith}
-use Rattle.std.specs.Prelude.{vec_capacity}
+use Rattle.std.proofs.Common.{◌≡◌, ◌∙◌, false, List, [], ◌∷◌, ◌++◌, Option, Some, None, refl, sym, ap, subst, arith}
+use Rattle.std.specs.Prelude.{option_map, vec_capacity}
 use Rattle.std.proofs.lemmas.List.{append-nil}
 use Rattle.ws_steps.specs.declared.effects.Effect.{Effect}
 use Rattle.ws_steps.specs.declared.promises.Job.{Job}
 use Rattle.ws_steps.specs.Jobs.{begin_job, job_effects}
-use Rattle.ws_steps.specs.Promises.{Table, next_job, first_job, after_next_job}
+use Rattle.ws_steps.specs.Promises.{next_job, first_job, after_next_job}
 use Rattle.ws_steps.specs.Queues.{is_empty}
 use Rattle.ws_steps.specs.Slots.{Slots, Done, causes}
 use Rattle.ws_steps.specs.Turns.{row, performed}
@@ -67,6 +67,11 @@ begins-with : (t : Tables) (job : Job) (e : Effect) → next_job t.promises.tabl
     → begin_job (slots_of t) ≡ causes (e ∷ []) (slots_of (without_first t))
 unfolding begin_job
 begins-with t job e there one = rw (there, one) refl
+
+-- the job that has these effects
+pub some-job : (o : Option Job) (es : List Effect) → option_map job_effects o ≡ Some es → (job : Job) × (o ≡ Some job) × (job_effects job ≡ es)
+some-job None es is = cc
+some-job (Some job) es is = (job, refl, cc)
 
 first-busy : (js : List Job) (job : Job) → first_job js ≡ Some job → is_empty js ≡ false
 first-busy [] job there = cc

@@ -1,17 +1,17 @@
 //! The jobs that each chunk meets on its way through a pipe. Each has one effect, which is performed at once: to put
 //! it on the agenda and to take it from there costs as much as most effects do.
-ghost use Rattle.std.specs.Prelude.{◌≡◌, [], ◌∷◌, Ok, IfSome, true, false};
-ghost use Rattle.ws_value.specs.declared.value.Plain.TheVariants.{Undefined};
-ghost use Rattle.ws_steps.specs.Jobs.{job_effects, steps};
+ghost use Rattle.std.specs.Prelude.{◌≡◌, [], ◌∷◌, Some, IfSome, option_map, true, false};
+ghost use Rattle.ws_steps.specs.Jobs.{job_effects};
+ghost use Rattle.ws_jobs.specs.Shorts.{job_in};
 ghost use Rattle.ws_effects.specs.Performing.{HasRoomFor, Performs};
 ghost use Rattle.ws_tables.specs.Room.{IsKept, IsPrepared, IsResting};
 ghost use Rattle.ws_calls.specs.First.{Began, effect_of};
 ghost use Rattle.ws_calls.specs.declared.first.First.TheVariants as first;
 
 use ws_effects::{perform_pipe, perform_readable, perform_transform, perform_writable};
+use ws_jobs::Short;
 use ws_steps::{
-    Job, Micro, PipeOperation, ReadableOperation, Step, TransformId, TransformOperation,
-    WritableOperation,
+    PipeOperation, ReadableOperation, TransformId, TransformOperation, WritableOperation,
 };
 use ws_tables::Tables;
 use ws_value::{PipeId, Plain, PromiseId, StreamId};
@@ -35,43 +35,22 @@ pub(crate) enum First {
     Fulfils(PromiseId),
 }
 
-/// What the reaction of this step to a promise that was fulfilled with undefined performs, without a derived promise.
+/// The effect of a job in its short form, where it has one alone.
 #[inline(always)]
-fn first_of_step(step: &Step) -> Option<First>
-    ensures { IfSome result (λ first. steps step.now (Ok Undefined) ≡ effect_of first ∷ []) }
+fn first_of(short: &Short) -> Option<First>
+    ensures { IfSome result (λ first. option_map job_effects (job_in short.now) ≡ Some (effect_of first ∷ [])) }
 {
-    match step {
-        Step::ReadablePull(i) => Some(First::Pulled(*i)),
-        Step::WritableWrite(i) => Some(First::Wrote(*i)),
-        Step::PipeReady(p) => Some(First::PipeReady(*p)),
-        Step::PipeWrote(p) => Some(First::PipeWrote(*p)),
-        Step::TransformChanged(t, promise) => Some(First::WriteGoesOn(*t, *promise)),
-        _ => None,
-    }
-}
-
-/// The one effect of a job, where it is such a job.
-#[inline(always)]
-fn first_of(job: &Job) -> Option<First>
-    ensures { IfSome result (λ first. job_effects job.now ≡ effect_of first ∷ []) }
-{
-    match job {
-        Job::Reaction {
-            step,
-            outcome: Ok(Plain::Undefined),
-            derived: None,
-        } => first_of_step(step),
-        Job::Reaction {
-            step: Step::Transformed(_),
-            outcome: Ok(Plain::Undefined),
-            derived: Some(promise),
-        } => Some(First::Fulfils(*promise)),
-        Job::Settle {
-            p,
-            outcome: Ok(Plain::Undefined),
-        } => Some(First::Fulfils(*p)),
-        Job::Micro(Micro::PipeWrite(p)) => Some(First::PipeWrites(*p)),
-        _ => None,
+    match short {
+        Short::Whole => None,
+        Short::Pulled(i) => Some(First::Pulled(*i)),
+        Short::Wrote(i) => Some(First::Wrote(*i)),
+        Short::PipeReady(n) => Some(First::PipeReady(PipeId(*n as u128))),
+        Short::PipeWrote(n) => Some(First::PipeWrote(PipeId(*n as u128))),
+        Short::Changed(t, n) => Some(First::WriteGoesOn(*t, PromiseId(*n as u128))),
+        Short::Transformed(_, n) => Some(First::Fulfils(PromiseId(*n as u128))),
+        Short::Adopt(n) => Some(First::Fulfils(PromiseId(*n as u128))),
+        Short::PipeWrite(n) => Some(First::PipeWrites(PipeId(*n as u128))),
+        Short::Follow(_, _) => None,
     }
 }
 
@@ -185,10 +164,8 @@ pub(crate) fn begin_first(tables: &mut Tables) -> bool
     ensures began { result ≡ true → Began tables.old tables.new }
     ensures untouched { result ≡ false → tables.new ≡ tables.old }
 {
-    let Some(job) = tables.promises.first_job() else {
-        return false;
-    };
-    let Some(first) = first_of(job) else {
+    let short = tables.promises.first_short();
+    let Some(first) = first_of(&short) else {
         return false;
     };
     tables.promises.drop_first_job();

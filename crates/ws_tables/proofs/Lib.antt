@@ -3,3 +3,4 @@ pub mod Counts
 pub mod Elements
 pub mod Loops
 pub mod Places
+pub mod Tidying

@@ -9,6 +9,7 @@
 
 mod kinds;
 mod lookups;
+mod needed;
 mod tables;
 
 pub use tables::{LIST_PLACES, Stream, Tables};

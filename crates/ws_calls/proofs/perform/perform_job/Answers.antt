@@ -1,4 +1,4 @@
-use Rattle.std.proofs.Common.{◌≡◌, ◌∙◌, ap, arith}
+use Rattle.std.proofs.Common.{◌∙◌, ap, arith}
 use Rattle.ws_steps.specs.Jobs.{begin_job}
 use Rattle.ws_steps.specs.Slots.{Slots}
 use Rattle.ws_laws.proofs.Ages.{begin_job-age, performed-age}
