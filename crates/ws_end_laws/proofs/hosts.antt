@@ -10,6 +10,7 @@ pub mod Dests
 pub mod Carried
 pub mod Ported
 pub mod Acts
+pub mod Places
 pub mod Piped
 pub mod PipedRows
 pub mod PipedMoves
@@ -17,8 +18,7 @@ pub mod PipedRuns
 pub mod Making
 pub mod Ended
 pub mod Doomed
-pub mod Writing
-pub mod Succeeded
+pub mod Made
 pub mod Spent
 pub mod Unread
 pub mod UnreadRuns

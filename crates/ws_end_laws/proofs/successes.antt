@@ -7,6 +7,7 @@ pub mod Successes
 pub mod Reacts
 pub mod Hears
 pub mod Hearing
+pub mod Ending
 pub mod Acting
 pub mod Shutting
 pub mod Wrote

@@ -1,7 +1,7 @@
 //! Laws over every run of a realm: which writes ended well, what a pipe hears of its action, and with which reason it
 //! ends, in every list of calls, jobs and events that the host takes.
 
-ghost use Rattle.ws_end_laws.specs.successes.Heard.{EachOutcomeHeardIsThePromises, EachPipeEndsAsItShutDown, EachPipeEndsAsItsAction};
+ghost use Rattle.ws_end_laws.specs.successes.Heard.{EachOutcomeHeardIsThePromises, EachOutcomeOfAPartIsItsPromises, EachPipeEndsAsItShutDown, EachPipeEndsAsItsAction};
 ghost use Rattle.ws_end_laws.specs.successes.Successes.{EachFulfilledPipeWroteAllItRead, EachPassHasAPromise, EachUnfailingPipeCloses, EachWriteBeforeAFailureSucceeded, EachWriteOfAPipeThatFoundNoFailureSucceeded, EachWriteOfAnUnfailingPipeSucceeded, NoneIsRejectedBeforeAFailure};
 
 /// While a writable stream is writable or closed, no promise of a write that was appended to it is rejected.
@@ -28,6 +28,14 @@ pub fn each_write_before_a_failure_succeeded()
 /// Of: pipes, shutdown with an action.
 pub fn each_outcome_heard_is_the_promises()
     ensures { EachOutcomeHeardIsThePromises }
+{}
+
+/// Where a pipe is told that a part of its signal's action has settled, the outcome is that of a promise to which it was
+/// to react so.
+///
+/// Of: pipes, the abort algorithm of a signal.
+pub fn each_outcome_of_a_part_is_its_promises()
+    ensures { EachOutcomeOfAPartIsItsPromises }
 {}
 
 /// A pipe that is over and performed an action ended by the one promise of that action, which has settled.

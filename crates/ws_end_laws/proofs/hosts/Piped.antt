@@ -8,7 +8,6 @@ use Rattle.ws_steps.specs.declared.effects.Effect.TheVariants.{Writable, Give, C
 use Rattle.ws_steps.specs.declared.{effects.Gift.TheVariants.{This}, effects.Use.{Use}, effects.Use.TheVariants.{React, Resolve}, promises.Step.TheVariants.{PipeActed}}
 use Rattle.ws_steps.specs.declared.writable.WritableOperation.TheVariants.{ClosePropagating}
 use Rattle.ws_steps.specs.Pipes as pipe
-use Rattle.ws_steps.specs.Pipes.{is_flowing}
 use Rattle.ws_steps.specs.Promises.{Table, outcome_at, next_id, fresh, tell, use_gift}
 use Rattle.ws_steps.specs.Slots.{Slots, writable_at}
 use Rattle.ws_steps.specs.Turns.{row, call_host}
@@ -26,9 +25,7 @@ use Rattle.ws_end_laws.proofs.hosts.Fates.{asks}
 use Rattle.ws_end_laws.proofs.hosts.Staying.{Open}
 use Rattle.ws_end_laws.proofs.hosts.Dests.{FateOr, asks-open}
 use Rattle.ws_end_laws.proofs.hosts.Acts.{acts_on, NoUse, Fits}
-
-true_false : {A : Type 0} (b : Bool) → b ≡ true → b ≡ false → A
-true_false b e f = cc
+use Rattle.ws_laws.proofs.Truth.{false_true}
 
 module _ (p : PipeId) (i : StreamId) where
   -- a promise to which pipe x reacts as to that of its action: where its shutdown has no error, it is that of the close of the destination, or it is
@@ -82,7 +79,7 @@ module _ (p : PipeId) (i : StreamId) where
     -- where the stream isn't closed, no such promise is fulfilled
     unfulfilled : (q : PromiseId) (v : Plain) {A : Type 0} → closed_in i z ≡ false → FateOr i q z → outcome_at z.promises q ≡ Some (Fulfilled v) → A
     unfulfilled q v n (inl (inl a)) e = open-pending q z.promises (Fulfilled v) (asks-open i q z fs l.straight a) e refl
-    unfulfilled q v n (inl (inr c)) e = true_false (closed_in i z) c n
+    unfulfilled q v n (inl (inr c)) e = false_true (closed_in i z) c n
     unfulfilled q v n (inr r) e = fulfilled_rejected (outcome_at z.promises q) v e r
 
     some_none : {A : Type 0} {B : Type 0} {x : A} → ◌≡◌ {A = Option A} (Some x) None → B
@@ -102,12 +99,12 @@ module _ (p : PipeId) (i : StreamId) where
     -- so the promises stand afterwards
     pub sources-next : (x y : pipe.Slots) → Later x y → SourcesOr x s z.promises → Sources y z z.promises
     sources-next x y (inl live) (inl g) =
-        good-weaker (acts_on p) (Source x s) (Source y z) (Told x s) (Told y z) z.promises (λ q k. true_false (is_live x.phase) live k.0) (λ v. true_false (is_live x.phase) live v.0) g
-    sources-next x y (inl live) (inr b) = true_false (is_live x.phase) live b.holds.0
+        good-weaker (acts_on p) (Source x s) (Source y z) (Told x s) (Told y z) z.promises (λ q k. false_true (is_live x.phase) live k.0) (λ v. false_true (is_live x.phase) live v.0) g
+    sources-next x y (inl live) (inr b) = false_true (is_live x.phase) live b.holds.0
     sources-next x y (inr k) g = by_error x y x.error refl k.0 k.1 g
 
     pub told-next : (x y : pipe.Slots) → Later x y → Told x s → Told y z
-    told-next x y (inl live) v = true_false (is_live x.phase) live v.0
+    told-next x y (inl live) v = false_true (is_live x.phase) live v.0
     told-next x y (inr k) v = (k.0, λ n. l.closed (v.1 (sym k.1 ∙ n)))
 
   -- effects on promises

@@ -1,5 +1,5 @@
 -- Each operation of a pipe that closes its destination keeps what holds of it.
-use Rattle.std.proofs.Common.{◌≡◌, ◌≤◌, Bool, true, false, not, ◌&&◌, inl, inr, nat_eq, List, [], ◌∷◌, ◌++◌, Option, Some, None, Result, Ok, Err, slice_get, refl, sym, ap, subst, ◌∙◌, arith, append_assoc, if◌then◌else◌}
+use Rattle.std.proofs.Common.{◌≡◌, Bool, true, false, not, ◌&&◌, inl, inr, List, [], ◌∷◌, ◌++◌, Option, Some, None, Result, Ok, Err, slice_get, refl, sym, ap, subst, ◌∙◌, arith, append_assoc, if◌then◌else◌}
 use Rattle.ws_value.specs.declared.{ids.PipeId.{PipeId}, ids.PromiseId.{PromiseId}, ids.StreamId.{StreamId}}
 use Rattle.ws_value.specs.declared.value.Plain.{Plain}
 use Rattle.ws_steps.specs.declared.effects.Effect.{Effect}
@@ -16,9 +16,6 @@ use Rattle.ws_steps.specs.Promises.{Table, next_id, fresh}
 use Rattle.ws_steps.specs.Slots.{Slots, Stream, as_writable, Done, put_pipe, ends_at, pipe_at, as_pipe, on_pipe_at, writable_at}
 use Rattle.ws_steps.specs.Turns.{row}
 use Rattle.ws_laws.proofs.Lists.{Each, each-append}
-use Rattle.ws_promise_laws.proofs.Acting.{Waits}
-use Rattle.ws_promise_laws.proofs.PipeActs.{acts_now}
-use Rattle.ws_promise_laws.proofs.Tokens.{one_if}
 use Rattle.ws_promise_laws.proofs.Runs.{Straight, straight-stays}
 use Rattle.ws_pipe_laws.specs.pipes.PipeHistory.{is_live, is_over, shutdown, shutdown_by, ended_by, came_to_end, error_after, operation_course, no_course}
 use Rattle.ws_pipe_laws.specs.pipes.PipeMoves.{starting, Move, MoveRests, MoveWaits, MoveActs, MoveEnds, MoveFinishes, IsNamed, acted, hears_part, dest_aborted, signalled, shut_in, end_effects}
@@ -32,9 +29,8 @@ use Rattle.ws_end_laws.proofs.hosts.Dests.{NoClose, FateOr}
 use Rattle.ws_end_laws.proofs.hosts.Acts.{Fits, are_idle-fit, end-effects-fit, each-weaker, are_idle-close}
 use Rattle.ws_end_laws.proofs.hosts.Piped.{Told, gives, Shape, Calm, Asking, Giving, SourcesOr, Later, Leaves, fate-next, sources-next, told-next, row-or}
 use Rattle.ws_end_laws.proofs.hosts.PipedRows.{EndWell, ends-append, effect_ends, Piped, row-leaves, same_first}
-
-true_false : {A : Type 0} (b : Bool) → b ≡ true → b ≡ false → A
-true_false b e f = cc
+use Rattle.ws_laws.proofs.Truth.{false_true}
+use Rattle.ws_end_laws.proofs.hosts.Places.{self, told_acting}
 
 -- a shutdown without an error closes the destination, unless that is prevented
 pub close_named : (prevent : Prevent) (ends : Ends) (operation : PipeOperation) (a : Option Action) (e : Option Plain) → shutdown_by prevent ends operation ≡ Some (shutdown a e) → e ≡ None → prevent.close ≡ false → a ≡ Some CloseDest
@@ -56,9 +52,6 @@ ended_none (ActionSettled (Err r)) y e = absurd (cc)
 ended_none _ y e = e
 
 module _ (p : PipeId) (i : StreamId) where
-  self : nat_eq p.0 p.0 ≡ true
-  self = grind arith
-
   -- an operation of the pipe, as its first effect
 
   module _ (s : Slots) (operation : PipeOperation) (es : List Effect) (x : pipe.Slots) where
@@ -90,7 +83,7 @@ module _ (p : PipeId) (i : StreamId) where
       weaker = told-next p i s z (cs ++ es) l x y later
 
       late_next : is_live x.phase ≡ false → Later p i x y → (is_live y.phase ≡ false) × (y.error ≡ x.error)
-      late_next late (inl live) = true_false (is_live x.phase) live late
+      late_next late (inl live) = false_true (is_live x.phase) live late
       late_next late (inr k) = k
 
       -- it causes no reaction to an action
@@ -104,7 +97,7 @@ module _ (p : PipeId) (i : StreamId) where
       -- of a pipe that was live
       calm_behind : is_live x.phase ≡ true → Behind → Each (Fits p U) es
       calm_behind live (BehindCalm f) = each-weaker p V U weaker es f
-      calm_behind live (BehindGiving d ds rest e late fate fd fr) = true_false (is_live x.phase) live late
+      calm_behind live (BehindGiving d ds rest e late fate fd fr) = false_true (is_live x.phase) live late
 
       -- it begins to act
       acts-shape : (ends : Ends) (w : pipe.Slots) (t : Table) (action : Action) → cs ≡ (acted p ends w t action).out.effects → w.dest ≡ i → is_live y.phase ≡ false → (y.error ≡ None → action ≡ CloseDest) → (y.error ≡ None → Open (writable_at i z)) → Each (Fits p U) es
@@ -164,8 +157,8 @@ module _ (p : PipeId) (i : StreamId) where
       named_plain : (y : pipe.Slots) (phase : Phase) → x.phase ≡ phase → IsNamed ends operation x y → y.error ≡ None → y.action ≡ Some CloseDest
       named_plain y Flowing f m e = close_named x.prevent ends operation y.action y.error (m.starts f) e k.closes
       named_plain y Waiting f m e = let same = m.keeps f in same.0 ∙ k.plain (ap is_flowing f) (sym same.1 ∙ e)
-      named_plain y Acting f m e = true_false (is_live x.phase) m.live (ap is_live f)
-      named_plain y Over f m e = true_false (is_live x.phase) m.live (ap is_live f)
+      named_plain y Acting f m e = false_true (is_live x.phase) m.live (ap is_live f)
+      named_plain y Over f m e = false_true (is_live x.phase) m.live (ap is_live f)
 
       rests-later : (y : pipe.Slots) (b : Bool) → is_live x.phase ≡ b → y.phase ≡ x.phase → y.error ≡ x.error → Later p i x y
       rests-later y true e f g = inl e
@@ -173,7 +166,7 @@ module _ (p : PipeId) (i : StreamId) where
 
       settled_well : (y : pipe.Slots) (o : Result Plain Plain) → operation ≡ ActionSettled o → y.error ≡ x.error → ended_by operation y ≡ None → closed_in i s ≡ true
       settled_well y (Ok v) e f n =
-          let told : Told p i x s = subst (λ (c : PipeOperation). Fits p (Told p i x s) (Pipe p c)) e k.fit self in
+          let told : Told p i x s = subst (λ (c : PipeOperation). Fits p (Told p i x s) (Pipe p c)) e k.fit (self p) in
           told.1 (sym f ∙ ended_none operation y n)
       settled_well y (Err r) e f n = let m : Some r ≡ None = sym (ap (λ (c : PipeOperation). ended_by c y) e) ∙ n in absurd (cc)
 
@@ -182,7 +175,7 @@ module _ (p : PipeId) (i : StreamId) where
         later = rests-later b.slots (is_live x.phase) refl f e;
         live = λ l. (sym (ap is_live f) ∙ l, are_idle-close i b.out.effects idle);
         plain = λ l n. a ∙ k.plain (sym (ap is_flowing f) ∙ l) (sym e ∙ n);
-        over = λ o n c. true_false (is_over x.phase) (sym (ap is_over f) ∙ o) n;
+        over = λ o n c. false_true (is_over x.phase) (sym (ap is_over f) ∙ o) n;
         shape = λ l. quiet-shape b.slots z b.out.effects l (rests-later b.slots (is_live x.phase) refl f e) (are_idle-fit p (Told p i b.slots z) b.out.effects idle) k.behind;
       }
       move-moved z b same (MoveWaits f e m w o) =
@@ -193,7 +186,7 @@ module _ (p : PipeId) (i : StreamId) where
             later = later;
             live = λ l. (ap is_live f, subst (Each (NoClose i)) (sym none) tt);
             plain = λ l n. named_plain b.slots x.phase refl m n;
-            over = λ o n c. true_false (is_over b.slots.phase) o (ap is_over phase);
+            over = λ o n c. false_true (is_over b.slots.phase) o (ap is_over phase);
             shape = λ l. quiet-shape b.slots z b.out.effects l later (subst (Each (Fits p (Told p i b.slots z))) (sym none) tt) k.behind;
           }
       move-moved z b same (MoveActs action w e m hw o alike) =
@@ -204,9 +197,9 @@ module _ (p : PipeId) (i : StreamId) where
           let dest : w.dest ≡ i = ap (λ (y : pipe.Slots). y.dest) e ∙ (shut_dest operation (Some action) w.error ∙ k.dest) in
           record {
             later = later;
-            live = λ l. true_false (is_live b.slots.phase) l (ap is_live phase);
+            live = λ l. false_true (is_live b.slots.phase) l (ap is_live phase);
             plain = λ l n. alike.action ∙ plain n;
-            over = λ o n c. true_false (is_over b.slots.phase) o (ap is_over phase);
+            over = λ o n c. false_true (is_over b.slots.phase) o (ap is_over phase);
             shape = λ l.
                 acts-shape b.slots z b.out.effects l later ends w s.promises action (ap (λ (y : pipe.Acts). y.out.effects) o) dest (ap is_live phase) (λ n. some_same action CloseDest (sym is_action ∙ plain n))
                 (λ n. subst (λ (streams : List Stream). Open (as_writable (slice_get streams i.0))) (sym same) (k.open_ m.live)) (calm_behind b.slots z b.out.effects l later m.live k.behind);
@@ -221,7 +214,7 @@ module _ (p : PipeId) (i : StreamId) where
           let effects : b.out.effects ≡ end_effects p x b.slots.error = ap (λ (y : Out). y.effects) o in
           record {
             later = later;
-            live = λ l. true_false (is_live b.slots.phase) l (ap is_live phase);
+            live = λ l. false_true (is_live b.slots.phase) l (ap is_live phase);
             plain = λ l n. named_plain b.slots x.phase refl m n;
             over = λ o n c. let f : None ≡ Some CloseDest = sym action ∙ named_plain b.slots x.phase refl m (ended_none operation b.slots c) in absurd (cc);
             shape = λ l. quiet-shape b.slots z b.out.effects l later (subst (Each (Fits p (Told p i b.slots z))) (sym effects) (end-effects-fit p (Told p i b.slots z) p x b.slots.error)) k.behind;
@@ -234,26 +227,13 @@ module _ (p : PipeId) (i : StreamId) where
           let effects : b.out.effects ≡ end_effects p x (error_after x.error r) = ap (λ (y : Out). y.effects) o in
           record {
             later = later;
-            live = λ l. true_false (is_live b.slots.phase) l (ap is_live phase);
+            live = λ l. false_true (is_live b.slots.phase) l (ap is_live phase);
             plain = λ l n. ap (λ (y : pipe.Slots). y.action) e ∙ k.plain (ap is_flowing acting) (sym error ∙ n);
             over = λ o n c. settled_well b.slots r f error c;
             shape = λ l. quiet-shape b.slots z b.out.effects l later (subst (Each (Fits p (Told p i b.slots z))) (sym effects) (end-effects-fit p (Told p i b.slots z) p x (error_after x.error r))) k.behind;
           }
 
   -- the pipe acts while it is told of the end of its action
-
-  acting_phase : (x : pipe.Slots) (phase : Phase) → x.phase ≡ phase → 1 ≤ one_if (acts_now (Some x)) → x.phase ≡ Acting
-  acting_phase x Acting e n = e
-  acting_phase x Flowing e n = let m : 1 ≤ 0 = rw e at n in absurd (omega arith)
-  acting_phase x Waiting e n = let m : 1 ≤ 0 = rw e at n in absurd (omega arith)
-  acting_phase x Over e n = let m : 1 ≤ 0 = rw e at n in absurd (omega arith)
-
-  told_acting : (s : Slots) (operation : PipeOperation) (es : List Effect) (x : pipe.Slots) → slice_get s.pipes p.0 ≡ Some x → Waits p s (Pipe p operation ∷ es) → (o : Result Plain Plain) → operation ≡ ActionSettled o → x.phase ≡ Acting
-  told_acting s operation es x there w o e =
-      let v : Waits p s (Pipe p (ActionSettled o) ∷ es) = subst (λ (c : PipeOperation). Waits p s (Pipe p c ∷ es)) e w in
-      let one : one_if (nat_eq p.0 p.0) ≡ 1 = ap one_if self in
-      let n : 1 ≤ one_if (acts_now (slice_get s.pipes p.0)) = omega (arith, v, one) in
-      acting_phase x x.phase refl (rw there at n)
 
   pub own-row : (h : List (Option Plain)) (s : Slots) (operation : PipeOperation) (es : List Effect) → let e : Effect = Pipe p operation in Piped p i h s (e ∷ es) → Piped p i (h ++ effect_ends p e s) (row e s).slots ((row e s).caused ++ es)
   unfolding row
@@ -276,11 +256,11 @@ module _ (p : PipeId) (i : StreamId) where
         plain = k.plain;
         fit = at.0;
         behind = at.1;
-        acting = told_acting s operation es x k.there (k.straight.waits p);
+        acting = told_acting p s operation es x k.there (k.straight.waits p);
       } in
       let m : Moved s operation es x b.slots d.slots d.caused = move-moved s operation es x ends known d.slots b refl (each_pipe_moves p ends operation x s.promises) in
       let told : effect_ends p e s ≡ came_to_end operation x b.slots =
-      ap (λ (c : Bool). (if c then operation_course operation (pipe_at p s) (pipe_at p (row e s).slots) else no_course).ended) self
+      ap (λ (c : Bool). (if c then operation_course operation (pipe_at p s) (pipe_at p (row e s).slots) else no_course).ended) (self p)
       ∙ (ap (λ (y : pipe.Slots). came_to_end operation y (pipe_at p (row e s).slots)) (ap as_pipe k.there)
       ∙ ap (λ (y : pipe.Slots). came_to_end operation x y) (ap (λ (c : Done). pipe_at p c.slots) same ∙ ap as_pipe there)) in
       subst (λ (c : Done). Piped p i (h ++ effect_ends p e s) c.slots (c.caused ++ es)) (sym same)

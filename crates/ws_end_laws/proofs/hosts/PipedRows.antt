@@ -17,10 +17,8 @@ use Rattle.ws_steps.specs.Histories.{is_same}
 use Rattle.ws_laws.proofs.Lists.{Each, each-append}
 use Rattle.ws_laws.proofs.Outcomes.{Keeps, keeps-same}
 use Rattle.ws_laws.proofs.Rows.{row-changes}
-use Rattle.ws_laws.proofs.Apart.{row-pipes}
 use Rattle.ws_laws.proofs.Stays.{keeps-changes}
 use Rattle.ws_laws.proofs.Tables.{unequal_numbers, is_same-refl}
-use Rattle.ws_steps.proofs.PromiseLaws.{slice_get-set_other}
 use Rattle.ws_promise_laws.proofs.Runs.{Straight, straight-stays}
 use Rattle.ws_pipe_laws.specs.pipes.PipeHistory.{is_live, is_over, error_after, operation_course, no_course, effect_course}
 use Rattle.ws_pipe_laws.specs.pipes.PipeMoves.{Move, MoveRests, MoveWaits, MoveActs, MoveEnds, MoveFinishes, acted, dest_aborted, signalled, shut_in}
@@ -33,9 +31,7 @@ use Rattle.ws_end_laws.proofs.hosts.Staying.{Open}
 use Rattle.ws_end_laws.proofs.hosts.Dests.{NoClose, FateOr, row-shut, row-started, row-open, row-fate, row-asked, row-there}
 use Rattle.ws_end_laws.proofs.hosts.Acts.{Fits, NotOf, caused-fit, each-weaker, fits-weaker, are_idle-close, end-effects-close, caused-close}
 use Rattle.ws_end_laws.proofs.hosts.Piped.{Told, gives, Shape, Calm, Asking, Giving, Sources, SourcesOr, Later, Leaves, fate-next, sources-next, told-next, row-or, give-or}
-
-true_false : {A : Type 0} (b : Bool) → b ≡ true → b ≡ false → A
-true_false b e f = cc
+use Rattle.ws_end_laws.proofs.hosts.Places.{other_there}
 
 -- each end of a pipe without an error comes only where this holds
 abbrev pub EndWell : Type 0 → List (Option Plain) → Type 0
@@ -143,7 +139,7 @@ module _ (p : PipeId) (i : StreamId) where
   pipe-close q operation s None n = tt
   pipe-close q operation s (Some y) n = move-close q (ends_at y s) operation y s.promises _ (n y refl) (each_pipe_moves q (ends_at y s) operation y s.promises)
 
-  other-close : (x : pipe.Slots) (s : Slots) (e : Effect) (es : List Effect) → NotOf p e → Locked s (e ∷ es) → slice_get s.pipes p.0 ≡ Some x → is_live x.phase ≡ true → x.dest ≡ i → Each (NoClose i) (row e s).caused
+  pub other-close : (x : pipe.Slots) (s : Slots) (e : Effect) (es : List Effect) → NotOf p e → Locked s (e ∷ es) → slice_get s.pipes p.0 ≡ Some x → is_live x.phase ≡ true → x.dest ≡ i → Each (NoClose i) (row e s).caused
   unfolding row
   other-close x s (Pipe q operation) es n l e live dest = pipe-close q operation s (slice_get s.pipes q.0) (λ y f other. apart q x y s (Pipe q operation ∷ es) l n e f live other dest)
   other-close x s e es n l f live dest = caused-close i e s tt
@@ -153,15 +149,6 @@ module _ (p : PipeId) (i : StreamId) where
   other_ends : (e : Effect) (s : Slots) → NotOf p e → effect_ends p e s ≡ []
   other_ends (Pipe q operation) s n = ap (λ (b : Bool). (if b then operation_course operation (pipe_at q s) (pipe_at q (row (Pipe q operation) s).slots) else no_course).ended) n
   other_ends _ s n = refl
-
-  other_place : (q : PipeId) (operation : PipeOperation) (s : Slots) (o : Option pipe.Slots) → nat_eq p.0 q.0 ≡ false → slice_get (on_pipe_at (λ ends. pipe_operation q ends operation) q s o).slots.pipes p.0 ≡ slice_get s.pipes p.0
-  other_place q operation s None n = refl
-  other_place q operation s (Some x) n = slice_get-set_other s.pipes q.0 p.0 _ (λ f. unequal_numbers p.0 q.0 n (sym f))
-
-  other_there : (e : Effect) (s : Slots) → NotOf p e → slice_get (row e s).slots.pipes p.0 ≡ slice_get s.pipes p.0
-  unfolding row
-  other_there (Pipe q operation) s n = other_place q operation s (slice_get s.pipes q.0) n
-  other_there e s n = ap (λ (ps : List pipe.Slots). slice_get ps p.0) (row-pipes e s tt)
 
   later_same : (x : pipe.Slots) → Later p i x x
   later_same x = by (is_live x.phase) refl
@@ -236,7 +223,7 @@ module _ (p : PipeId) (i : StreamId) where
       let next = other-next k.x s e es n k.straight l k.table k.shape in
       record {
         x = k.x;
-        there = other_there e s n ∙ k.there;
+        there = other_there p e s n ∙ k.there;
         dest = k.dest;
         closes = k.closes;
         straight = straight;

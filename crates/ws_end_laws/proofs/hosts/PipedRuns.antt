@@ -9,7 +9,6 @@ use Rattle.ws_steps.specs.declared.pipes.{Phase.{Phase}, Phase.TheVariants.{Flow
 use Rattle.ws_steps.specs.declared.promises.{Job.{Job}}
 use Rattle.ws_steps.specs.declared.writable.{WritableOperation.TheVariants.{Close, ClosePropagating}}
 use Rattle.ws_steps.specs.Pipes as pipe
-use Rattle.ws_steps.specs.Pipes.{is_flowing}
 use Rattle.ws_steps.specs.Promises.{Table, fresh, next_job, first_job, after_next_job, watch}
 use Rattle.ws_steps.specs.Readable as readable
 use Rattle.ws_steps.specs.Writable as writable
@@ -254,7 +253,7 @@ module _ (p : PipeId) (i : StreamId) where
   live_over Acting e = cc
   live_over Over e = cc
 
-  calls-close : (entries : List Entry) (c : Call) (x : pipe.Slots) → let s : Slots = run entries empty in slice_get s.pipes p.0 ≡ Some x → x.dest ≡ i → is_live x.phase ≡ true → Each (NoClose i) (begin c s).done.caused
+  pub calls-close : (entries : List Entry) (c : Call) (x : pipe.Slots) → let s : Slots = run entries empty in slice_get s.pipes p.0 ≡ Some x → x.dest ≡ i → is_live x.phase ≡ true → Each (NoClose i) (begin c s).done.caused
   calls-close entries c x e dest live =
       let s : Slots = run entries empty in
       let at : pipe_at p s ≡ x = ap as_pipe e in

@@ -17,6 +17,7 @@ use Rattle.ws_steps.specs.Writable as writable
 use Rattle.ws_steps.specs.Writable.{Acts, is_closed, is_closing, is_erroring, is_writable, is_in_flight, has_ended, write_refusal, reject_close_and_closed, abort_by, finish_abort, fail_writes, finish_erroring, reject_ready, start_erroring, deal_with_rejection, controller_error_if_needed, update_backpressure, refresh_backpressure, process_write, process_close, process_first, advance_queue, hand_on, hand_on_first, write_settled, write_ended, without_first, close_settled, finish_in_flight_close, finish_in_flight_close_with_error, close_ended, abort_ended, add_close_request, fulfil_ready, controller_close, start_settled, abort_settled, enqueue_chunk, add_write_request, controller_write, writer_write, write_by, stream_close, close_with_error_propagation, begin_abort, add_pending_abort, signalled, stream_abort, abort_if_writable, set_up_writer, release_by, writer_release}
 use Rattle.ws_laws.proofs.Tables.{either}
 use Rattle.ws_end_laws.proofs.hosts.Closing.{operation-before, IsClosing}
+use Rattle.ws_laws.proofs.Truth.{false_true}
 
 -- a stream that is closed
 
@@ -180,17 +181,14 @@ is_false : (b : Bool) → (b ≡ true → ⊥) → b ≡ false
 is_false true n = absurd (n refl)
 is_false false n = refl
 
-true_false : {A : Type 0} (b : Bool) → b ≡ true → b ≡ false → A
-true_false b e f = cc
-
 not_closing_one : (operation : WritableOperation) → (IsClose operation → ⊥) → IsClosing operation → ⊥
 not_closing_one (names.CloseSettled o) n c = n tt
 not_closing_one _ n c = c
 
 pub open-operation : (i : StreamId) (operation : WritableOperation) (a : Acts) → (IsClose operation → ⊥) → Open a.slots → Open (writable_operation i operation a).slots
 open-operation i operation a n o = record {
-  closing = is_false (is_closing (writable_operation i operation a).slots) (λ c. true_false (is_closing a.slots) (closing-before i operation a n c) o.closing);
-  closed = is_false (is_closed (writable_operation i operation a).slots.state) (λ c. true_false (is_closed a.slots.state) (operation-before i operation a (not_closing_one operation n) c) o.closed);
+  closing = is_false (is_closing (writable_operation i operation a).slots) (λ c. false_true (is_closing a.slots) (closing-before i operation a n c) o.closing);
+  closed = is_false (is_closed (writable_operation i operation a).slots.state) (λ c. false_true (is_closed a.slots.state) (operation-before i operation a (not_closing_one operation n) c) o.closed);
 }
 
 -- the controller has started, and stays so

@@ -1,24 +1,20 @@
 -- Where a pipe began its action, and for which promise, over every run.
-use Rattle.std.proofs.Common.{◌≡◌, ◌⊎◌, inl, inr, ℕ, zero, suc, ◌≤◌, Bool, true, false, nat_eq, List, [], ◌∷◌, ◌++◌, Option, Some, None, Result, slice_get, refl, sym, ap, subst, ◌∙◌, arith, append_assoc}
+use Rattle.std.proofs.Common.{◌≡◌, ◌⊎◌, inl, inr, ℕ, Bool, true, false, nat_eq, List, [], ◌∷◌, ◌++◌, Option, Some, None, Result, slice_get, refl, sym, ap, subst, ◌∙◌, arith, append_assoc}
 use Rattle.ws_value.specs.declared.{ids.PipeId.{PipeId}, ids.PromiseId.{PromiseId}}
 use Rattle.ws_value.specs.declared.value.{Plain.{Plain}}
 use Rattle.ws_steps.specs.declared.calls.{Call.{Call}}
 use Rattle.ws_steps.specs.declared.effects.Effect.{Effect}
 use Rattle.ws_steps.specs.declared.effects.Effect.TheVariants.{Pipe}
-use Rattle.ws_steps.specs.declared.pipes.{Action.{Action}, Action.TheVariants.{AbortDest, CancelSource, CloseDest, BySignal}, Ends.{Ends}, Phase.{Phase}, Phase.TheVariants.{Flowing, Waiting, Acting, Over}, PipeOperation.{PipeOperation}, PipeOperation.TheVariants.{ActionSettled}}
+use Rattle.ws_steps.specs.declared.pipes.{Action.{Action}, Action.TheVariants.{AbortDest, CancelSource, CloseDest, BySignal}, Ends.{Ends}, Phase.{Phase}, Phase.TheVariants.{Flowing, Acting}, PipeOperation.{PipeOperation}, PipeOperation.TheVariants.{ActionSettled}}
 use Rattle.ws_steps.specs.Calls.{begin}
 use Rattle.ws_steps.specs.Operations.{pipe_operation}
 use Rattle.ws_steps.specs.Pipes as pipe
 use Rattle.ws_steps.specs.Run.{Entry, run}
 use Rattle.ws_steps.specs.Slots.{Slots, Done, empty, as_pipe, pipe_at, ends_at, put_pipe, on_pipe_at}
 use Rattle.ws_steps.specs.Turns.{Moment, row}
-use Rattle.ws_steps.proofs.PromiseLaws.{slice_get-set_other}
-use Rattle.ws_laws.proofs.Apart.{row-pipes}
-use Rattle.ws_laws.proofs.Tables.{eq_numbers, unequal_numbers}
+use Rattle.ws_laws.proofs.Tables.{eq_numbers}
 use Rattle.ws_laws.proofs.Walker.{GoesUntold, run-holds}
 use Rattle.ws_promise_laws.proofs.Acting.{EachWaits, Waits, waits-stays, waits-heard, none-waits}
-use Rattle.ws_promise_laws.proofs.PipeActs.{acts_now}
-use Rattle.ws_promise_laws.proofs.Tokens.{one_if}
 use Rattle.ws_pipe_laws.specs.pipes.PipeHistory.{is_live, effect_moment, run_moments}
 use Rattle.ws_pipe_laws.specs.pipes.PipeMoves.{starting, Move, MoveRests, MoveWaits, MoveActs, MoveEnds, MoveFinishes, acted, dest_aborted, signalled, shut_in}
 use Rattle.ws_pipe_laws.proofs.pipes.Courses.{place_same}
@@ -27,13 +23,12 @@ use Rattle.ws_pipe_laws.proofs.writes.Orderly.{moment, moments_history}
 use Rattle.ws_end_laws.proofs.hosts.Acts.{NotOf}
 use Rattle.ws_end_laws.proofs.hosts.Called.{place-grows}
 use Rattle.ws_end_laws.proofs.hosts.Making.{Adds, call-adds}
-use Rattle.ws_end_laws.specs.successes.Heard.{ActedFor, heard_in, effect_heard, promises_heard}
-use Rattle.ws_steps.specs.Pipes.{is_flowing}
+use Rattle.ws_end_laws.specs.successes.Heard.{ItsAction, ActedFor, heard_in, effect_heard, promises_heard}
 use Rattle.ws_steps.specs.declared.pipes.Prevent.{Prevent}
-use Rattle.ws_end_laws.proofs.successes.Hearing.{acted_one, heard-append}
-
-true_false : {A : Type 0} (b : Bool) → b ≡ true → b ≡ false → A
-true_false b e f = cc
+use Rattle.ws_end_laws.proofs.successes.Ending.{acted_one}
+use Rattle.ws_end_laws.proofs.successes.Hearing.{heard-append}
+use Rattle.ws_laws.proofs.Truth.{false_true}
+use Rattle.ws_end_laws.proofs.hosts.Places.{other_there, place-new, told_acting}
 
 module _ (p : PipeId) where
   -- as of its action, but for that no other promise is
@@ -47,7 +42,7 @@ module _ (p : PipeId) where
     effect : at.effect ≡ Pipe p operation
     live : is_live (pipe_at p at.found).phase ≡ true
     caused : (row at.effect at.found).caused ≡ (acted p (ends_at (pipe_at p at.found) at.found) (pipe_at p at.found) at.found.promises action).out.effects
-    heard : effect_heard p at.effect at.found ≡ promise ∷ []
+    heard : effect_heard ItsAction p at.effect at.found ≡ promise ∷ []
 
   abbrev Story : List Moment → Option pipe.Slots → Type 0
   Story h None = Unit {0}
@@ -117,7 +112,7 @@ module _ (p : PipeId) where
           effect = refl;
           live = ap (λ (z : pipe.Slots). is_live z.phase) at ∙ l;
           caused = subst (λ (z : pipe.Slots). (row m.effect m.found).caused ≡ (acted p (ends_at z s) z s.promises action).out.effects) (sym at) caused;
-          heard = ap (heard_in p) caused ∙ one.1;
+          heard = ap (heard_in ItsAction p) caused ∙ one.1;
         }
 
     some_same : (a b : Action) → ◌≡◌ {A = Option Action} (Some a) (Some b) → a ≡ b
@@ -128,28 +123,12 @@ module _ (p : PipeId) where
 
     move-begun : (b : pipe.Acts) → (row m.effect m.found).caused ≡ b.out.effects → ((r : Result Plain Plain) → operation ≡ ActionSettled r → x.phase ≡ Acting) → Move p ends operation x s.promises b → Story (h ++ m ∷ []) (Some b.slots)
     move-begun b same acting (MoveRests f a e idle) = λ l action is. later h m action (was (sym (ap is_live f) ∙ l) action (sym a ∙ is))
-    move-begun b same acting (MoveWaits f e n w o) = λ l action is. true_false (is_live b.slots.phase) (ap (λ (y : pipe.Slots). is_live y.phase) e) l
+    move-begun b same acting (MoveWaits f e n w o) = λ l action is. false_true (is_live b.slots.phase) (ap (λ (y : pipe.Slots). is_live y.phase) e) l
     move-begun b same acting (MoveActs action y e n hw o alike) =
         λ l other is.
         subst (λ (c : Action). Begun c (h ++ m ∷ [])) (some_same action other (sym (ap (λ (z : pipe.Slots). z.action) e) ∙ (sym alike.action ∙ is))) (now b y action same e n.live o)
     move-begun b same acting (MoveEnds e n hw o) = λ l action is. none_some action (sym (ap (λ (y : pipe.Slots). y.action) e) ∙ is)
     move-begun b same acting (MoveFinishes r f e o) = λ l action is. later h m action (was (ap is_live (acting r f)) action (sym (ap (λ (y : pipe.Slots). y.action) e) ∙ is))
-
-  self : nat_eq p.0 p.0 ≡ true
-  self = grind arith
-
-  acting_phase : (x : pipe.Slots) (phase : Phase) → x.phase ≡ phase → 1 ≤ one_if (acts_now (Some x)) → x.phase ≡ Acting
-  acting_phase x Acting e n = e
-  acting_phase x Flowing e n = let m : 1 ≤ 0 = rw e at n in absurd (omega arith)
-  acting_phase x Waiting e n = let m : 1 ≤ 0 = rw e at n in absurd (omega arith)
-  acting_phase x Over e n = let m : 1 ≤ 0 = rw e at n in absurd (omega arith)
-
-  told_acting : (s : Slots) (operation : PipeOperation) (es : List Effect) (x : pipe.Slots) → slice_get s.pipes p.0 ≡ Some x → Waits p s (Pipe p operation ∷ es) → (o : Result Plain Plain) → operation ≡ ActionSettled o → x.phase ≡ Acting
-  told_acting s operation es x there w o e =
-      let v : Waits p s (Pipe p (ActionSettled o) ∷ es) = subst (λ (c : PipeOperation). Waits p s (Pipe p c ∷ es)) e w in
-      let one : one_if (nat_eq p.0 p.0) ≡ 1 = ap one_if self in
-      let n : 1 ≤ one_if (acts_now (slice_get s.pipes p.0)) = omega (arith, v, one) in
-      acting_phase x x.phase refl (rw there at n)
 
   abbrev Goes : List Moment → Slots → Effect → Type 0
   Goes h s e = Story (h ++ moment e s ∷ []) (slice_get (row e s).slots.pipes p.0)
@@ -166,19 +145,10 @@ module _ (p : PipeId) where
       let same : row (Pipe p operation) s ≡ d = ap (on_pipe_at (λ ends. pipe_operation p ends operation) p s) e in
       let there : slice_get d.slots.pipes p.0 ≡ Some b.slots = place_same s.pipes p.0 x b.slots e in
       let place : slice_get (row (Pipe p operation) s).slots.pipes p.0 ≡ Some b.slots = ap (λ (c : Done). slice_get c.slots.pipes p.0) same ∙ there in
-      subst (Story (h ++ moment (Pipe p operation) s ∷ [])) (sym place) (move-begun h operation s x e w b (ap (λ (c : Done). c.caused) same) (told_acting s operation es x e wt) (each_pipe_moves p (ends_at x s) operation x s.promises))
-
-  other_place : (q : PipeId) (operation : PipeOperation) (s : Slots) (o : Option pipe.Slots) → nat_eq p.0 q.0 ≡ false → slice_get (on_pipe_at (λ ends. pipe_operation q ends operation) q s o).slots.pipes p.0 ≡ slice_get s.pipes p.0
-  other_place q operation s None n = refl
-  other_place q operation s (Some x) n = slice_get-set_other s.pipes q.0 p.0 _ (λ f. unequal_numbers p.0 q.0 n (sym f))
-
-  other_there : (e : Effect) (s : Slots) → NotOf p e → slice_get (row e s).slots.pipes p.0 ≡ slice_get s.pipes p.0
-  unfolding row
-  other_there (Pipe q operation) s n = other_place q operation s (slice_get s.pipes q.0) n
-  other_there e s n = ap (λ (ps : List pipe.Slots). slice_get ps p.0) (row-pipes e s tt)
+      subst (Story (h ++ moment (Pipe p operation) s ∷ [])) (sym place) (move-begun h operation s x e w b (ap (λ (c : Done). c.caused) same) (told_acting p s operation es x e wt) (each_pipe_moves p (ends_at x s) operation x s.promises))
 
   other-story : (h : List Moment) (s : Slots) (e : Effect) → NotOf p e → Story h (slice_get s.pipes p.0) → Goes h s e
-  other-story h s e n w = subst (Story (h ++ moment e s ∷ [])) (sym (other_there e s n)) (later-story h (moment e s) (slice_get s.pipes p.0) w)
+  other-story h s e n w = subst (Story (h ++ moment e s ∷ [])) (sym (other_there p e s n)) (later-story h (moment e s) (slice_get s.pipes p.0) w)
 
   pipe-story : (h : List Moment) (s : Slots) (q : PipeId) (operation : PipeOperation) (es : List Effect) (same : Bool) → nat_eq p.0 q.0 ≡ same → EachWaits s (Pipe q operation ∷ es) → Story h (slice_get s.pipes p.0) → Goes h s (Pipe q operation)
   pipe-story h s q operation es false n wt w = other-story h s (Pipe q operation) n w
@@ -192,14 +162,8 @@ module _ (p : PipeId) where
   abbrev Is : List Moment → Slots → List Effect → Type 0
   Is h s es = EachWaits s es × Story h (slice_get s.pipes p.0)
 
-  place-new : (ps : List pipe.Slots) (y : pipe.Slots) (n : ℕ) → slice_get ps n ≡ None → (slice_get (ps ++ y ∷ []) n ≡ None) ⊎ (slice_get (ps ++ y ∷ []) n ≡ Some y)
-  place-new [] y zero e = inr refl
-  place-new [] y (suc n) e = inl refl
-  place-new (x ∷ ps) y zero e = absurd (cc)
-  place-new (x ∷ ps) y (suc n) e = place-new ps y n e
-
   new-begun : (h : List Moment) (y : pipe.Slots) → y.phase ≡ Flowing → Story h (Some y)
-  new-begun h y e = λ f. true_false (is_live y.phase) (ap is_live e) f
+  new-begun h y e = λ f. false_true (is_live y.phase) (ap is_live e) f
 
   grown-story : (h : List Moment) (ps : List pipe.Slots) (y : pipe.Slots) (o : Option pipe.Slots) → slice_get ps p.0 ≡ o → y.phase ≡ Flowing → Story h o → Story h (slice_get (ps ++ y ∷ []) p.0)
   grown-story h ps y (Some x) e flows w = subst (Story h) (sym (place-grows ps (y ∷ []) p.0 x e)) w
@@ -240,13 +204,13 @@ one_there (y ∷ ys) zs q d e = absurd (none_there ys zs q (tails y (ys ++ q ∷
     none_there (y ∷ ys) zs q e = absurd (cc)
 
 pub acted-for : (entries : List Entry) (p : PipeId) (x : pipe.Slots) (action : Action) → slice_get (run entries empty).pipes p.0 ≡ Some x → is_live x.phase ≡ false → x.action ≡ Some action
-    → (d : PromiseId) → promises_heard p (run_moments entries empty) ≡ d ∷ [] → ActedFor p action (run_moments entries empty)
+    → (d : PromiseId) → promises_heard ItsAction p (run_moments entries empty) ≡ d ∷ [] → ActedFor p action (run_moments entries empty)
 acted-for entries p x action there late is d one =
     let ms : List Moment = run_moments entries empty in
     let k : Begun p action ms = subst (Story p ms) there (run-begun p entries) late action is in
-    let all : promises_heard p k.past ++ k.promise ∷ promises_heard p k.rest ≡ d ∷ [] =
-    ap (λ (ds : List PromiseId). promises_heard p k.past ++ (ds ++ promises_heard p k.rest)) (sym k.heard) ∙ (sym (heard-append p k.past (k.at ∷ k.rest)) ∙ (ap (promises_heard p) (sym k.split) ∙ one)) in
-    let same : k.promise ≡ d = one_there (promises_heard p k.past) (promises_heard p k.rest) k.promise d all in
+    let all : promises_heard ItsAction p k.past ++ k.promise ∷ promises_heard ItsAction p k.rest ≡ d ∷ [] =
+    ap (λ (ds : List PromiseId). promises_heard ItsAction p k.past ++ (ds ++ promises_heard ItsAction p k.rest)) (sym k.heard) ∙ (sym (heard-append ItsAction p k.past (k.at ∷ k.rest)) ∙ (ap (promises_heard ItsAction p) (sym k.split) ∙ one)) in
+    let same : k.promise ≡ d = one_there (promises_heard ItsAction p k.past) (promises_heard ItsAction p k.rest) k.promise d all in
     record {
       past = k.past;
       moment = k.at;

@@ -1,8 +1,7 @@
 -- The writes of a pipe are appended to its destination, unless that fails, whatever the pipe isn't to do.
-use Rattle.std.proofs.Common.{◌≡◌, ℕ, Bool, true, false, ◌||◌, is_some, nat_eq, List, [], ◌∷◌, ◌++◌, length, Option, Some, None, slice_get, refl, sym, ap, subst, ◌∙◌, arith, append-nil, if◌then◌else◌}
+use Rattle.std.proofs.Common.{◌≡◌, ℕ, Bool, true, false, ◌||◌, is_some, nat_eq, List, [], ◌∷◌, ◌++◌, length, Option, Some, None, slice_get, refl, sym, ap, subst, ◌∙◌, arith, append_assoc, append-nil, if◌then◌else◌}
 use Rattle.ws_value.specs.declared.{ids.PipeId.{PipeId}, ids.PromiseId.{PromiseId}, ids.StreamId.{StreamId}}
 use Rattle.ws_value.specs.declared.value.{Plain.{Plain}, Value.{Value}}
-use Rattle.ws_end_laws.proofs.hosts.Writing.{AllIn, Writings, no_writings, writings_then, writings-history, effect_writings, step_writings}
 use Rattle.ws_steps.specs.declared.calls.{Call.{Call}, Reply.{Reply}, Reply.TheVariants.{Promise}}
 use Rattle.ws_steps.specs.declared.effects.Effect.{Effect}
 use Rattle.ws_steps.specs.declared.effects.Effect.TheVariants.{Writable, Pipe}
@@ -20,11 +19,11 @@ use Rattle.ws_steps.specs.Calls.{begin, named}
 use Rattle.ws_steps.specs.Run.{Entry, Called, Worked, Heard, run, step, older}
 use Rattle.ws_steps.specs.Writable as writable
 use Rattle.ws_steps.specs.Writable.{is_closed, is_closing, is_errored, is_erroring, write_refusal}
-use Rattle.ws_steps.specs.Histories.{along}
+use Rattle.ws_steps.specs.Histories.{along, in_step}
 use Rattle.ws_steps.specs.WritableHistory.{written_unless, promised_by, effect_promised}
 use Rattle.ws_laws.proofs.Apart.{row-streams}
 use Rattle.ws_laws.proofs.Tables.{is_same-refl, eq_numbers}
-use Rattle.ws_laws.proofs.Walker.{performed-goes, nothing-told}
+use Rattle.ws_laws.proofs.Walker.{IsHistory, performed-goes, nothing-told}
 use Rattle.ws_promise_laws.proofs.Runs.{Straight}
 use Rattle.ws_pipe_laws.specs.pipes.PipeHistory.{is_live, held_promise, operation_promises, effect_promises}
 use Rattle.ws_pipe_laws.specs.pipes.PipeMoves.{starting}
@@ -34,6 +33,13 @@ use Rattle.ws_end_laws.proofs.hosts.Doomed.{Doomed, row-doomed}
 use Rattle.ws_end_laws.proofs.hosts.PipedRows.{same_first}
 use Rattle.ws_end_laws.proofs.hosts.PipedRuns.{SamePlace, call-same}
 use Rattle.ws_end_laws.proofs.successes.Steady.{Steady, row-steady, call-steady, begun-steady, SteadyAfter}
+use Rattle.ws_end_laws.proofs.hosts.Places.{self}
+
+-- these promises are among those
+
+abbrev pub AllIn : List PromiseId → List PromiseId → Type 0
+AllIn [] qs = Unit {0}
+AllIn (d ∷ ds) qs = ((n : ℕ) × (slice_get qs n ≡ Some d)) × AllIn ds qs
 
 all_in-grow : (ds qs more : List PromiseId) → AllIn ds qs → AllIn ds (qs ++ more)
 all_in-grow [] qs more a = tt
@@ -43,9 +49,27 @@ all_in-append : (ds es qs : List PromiseId) → AllIn ds qs → AllIn es qs → 
 all_in-append [] es qs a b = b
 all_in-append (d ∷ ds) es qs a b = (a.0, all_in-append ds es qs a.1 b)
 
+-- the promises of the writes that the pipe made, and of those that were appended to the stream
+pub record Writings : Type 0 where
+  pub made : List PromiseId
+  pub promised : List PromiseId
+
+abbrev pub no_writings : Writings
+no_writings = record { made = []; promised = [] }
+
+abbrev pub writings_then : Writings → Writings → Writings
+writings_then f g = record { made = f.made ++ g.made; promised = f.promised ++ g.promised }
+
+pub writings-history : IsHistory no_writings writings_then
+writings-history = record {
+  left = λ f. refl;
+  right = λ f k. record { made = append-nil f.made k; promised = append-nil f.promised k };
+  assoc = λ f g h k. record { made = append_assoc f.made g.made h.made k; promised = append_assoc f.promised g.promised h.promised k };
+}
+
 module _ (p : PipeId) (i : StreamId) where
-  abbrev told_writings : Effect → Slots → Writings
-  told_writings e s = effect_writings p i e s
+  abbrev pub effect_writings : Effect → Slots → Writings
+  effect_writings e s = record { made = effect_promises p e s; promised = effect_promised i e s }
 
   -- the destination has failed; or each write of the pipe was appended to it; or all but the last were, which is about to be
   pub data Writing (h : Writings) (s : Slots) (es : List Effect) : Type 0 where
@@ -54,7 +78,7 @@ module _ (p : PipeId) (i : StreamId) where
     About : (v : Value) (d : PromiseId) (ms : List PromiseId) (rest : List Effect) → es ≡ Writable i (Write v d) ∷ rest → h.made ≡ ms ++ d ∷ [] → AllIn ms h.promised → Open (writable_at i s) → Writing h s es
 
   abbrev Next : Writings → Slots → Effect → List Effect → Type 0
-  Next h s e es = Writing (writings_then h (told_writings e s)) (row e s).slots ((row e s).caused ++ es)
+  Next h s e es = Writing (writings_then h (effect_writings e s)) (row e s).slots ((row e s).caused ++ es)
 
   -- nothing is made
   passed-on : (h : Writings) (s : Slots) (e : Effect) (es : List Effect) → effect_promises p e s ≡ [] → AllIn h.made h.promised → Next h s e es
@@ -63,15 +87,12 @@ module _ (p : PipeId) (i : StreamId) where
 
   -- the pipe writes
 
-  self : nat_eq p.0 p.0 ≡ true
-  self = grind arith
-
   abbrev writes : Effect
   writes = Pipe p WriteChunk
 
   own_made : (s : Slots) (x : pipe.Slots) → slice_get s.pipes p.0 ≡ Some x → effect_promises p writes s ≡ held_promise x.phase x.held (next_id s.promises)
   own_made s x e =
-      ap (λ (b : Bool). if b then operation_promises WriteChunk (pipe_at p s) (next_id s.promises) else []) self
+      ap (λ (b : Bool). if b then operation_promises WriteChunk (pipe_at p s) (next_id s.promises) else []) (self p)
       ∙ ap (λ (y : pipe.Slots). held_promise y.phase y.held (next_id s.promises)) (ap as_pipe e)
 
   -- what it causes first, where it holds a chunk and may write
@@ -180,11 +201,11 @@ module _ (p : PipeId) (i : StreamId) where
   abbrev Both : Writings → Slots → List Effect → Type 0
   Both h s es = Steady p i s es × Writing h s es
 
-  row-both : (h : Writings) (s : Slots) (e : Effect) (es : List Effect) → Both h s (e ∷ es) → Both (writings_then h (told_writings e s)) (row e s).slots ((row e s).caused ++ es)
+  row-both : (h : Writings) (s : Slots) (e : Effect) (es : List Effect) → Both h s (e ∷ es) → Both (writings_then h (effect_writings e s)) (row e s).slots ((row e s).caused ++ es)
   row-both h s e es k = (row-steady p i s e es k.0, row-writing h s e es k.0 k.1)
 
-  done-writing : (h : Writings) (d : Done) → Both h d.slots d.caused → Writing (writings_then h (along no_writings writings_then told_writings (moments d))) (performed d) []
-  done-writing h d k = (performed-goes no_writings writings_then writings-history told_writings Both row-both h d k).1
+  done-writing : (h : Writings) (d : Done) → Both h d.slots d.caused → Writing (writings_then h (along no_writings writings_then effect_writings (moments d))) (performed d) []
+  done-writing h d k = (performed-goes no_writings writings_then writings-history effect_writings Both row-both h d k).1
 
   -- between steps
   pub same-writing : (h : Writings) (s z : Slots) (cs : List Effect) → SamePlace i s z → Writing h s [] → Writing h z cs
@@ -196,10 +217,10 @@ module _ (p : PipeId) (i : StreamId) where
   named-writing h (Promise q) s w = same-writing h s (named (Promise q) s) [] refl w
   named-writing h _ s w = w
 
-  abbrev steps_writings : Slots → Entry → Writings
-  steps_writings s x = step_writings p i s x
+  abbrev pub step_writings : Slots → Entry → Writings
+  step_writings s x = in_step no_writings writings_then effect_writings s x
 
-  pub called-writing : (h : Writings) (c : Call) (s : Slots) → Both h (begin c s).done.slots (begin c s).done.caused → Writing (writings_then h (steps_writings s (Called c))) (step s (Called c)) []
+  pub called-writing : (h : Writings) (c : Call) (s : Slots) → Both h (begin c s).done.slots (begin c s).done.caused → Writing (writings_then h (step_writings s (Called c))) (step s (Called c)) []
   called-writing h c s k =
       let z : Slots = performed (begin c s).done in
       same-writing _ (named (begin c s).reply z) (older (named (begin c s).reply z)) [] refl (named-writing _ (begin c s).reply z (done-writing h (begin c s).done k))
@@ -208,16 +229,16 @@ module _ (p : PipeId) (i : StreamId) where
   begun-writing None h s w = w
   begun-writing (Some job) h s w = same-writing h s (job_begun s (Some job)).slots (job_begun s (Some job)).caused refl w
 
-  worked-writing : (h : Writings) (s : Slots) → Steady p i s [] → Writing h s [] → Writing (writings_then h (steps_writings s Worked)) (step s Worked) []
+  worked-writing : (h : Writings) (s : Slots) → Steady p i s [] → Writing h s [] → Writing (writings_then h (step_writings s Worked)) (step s Worked) []
   unfolding begin_job
   worked-writing h s k w =
       let d : Done = begin_job s in
       same-writing _ (performed d) (older (performed d)) [] refl (done-writing h d (begun-steady p i (next_job s.promises) s refl k, begun-writing (next_job s.promises) h s w))
 
-  resting : (h : Writings) (s z : Slots) → SamePlace i s z → Writing h s [] → Writing (writings_then h (along no_writings writings_then told_writings (moments (nothing s)))) z []
-  resting h s z e w = rw (nothing-told no_writings writings_then writings-history told_writings s, writings-history.right h) (same-writing h s z [] e w)
+  resting : (h : Writings) (s z : Slots) → SamePlace i s z → Writing h s [] → Writing (writings_then h (along no_writings writings_then effect_writings (moments (nothing s)))) z []
+  resting h s z e w = rw (nothing-told no_writings writings_then writings-history effect_writings s, writings-history.right h) (same-writing h s z [] e w)
 
-  pub step-writing : (h : Writings) (xs : List Entry) (x : Entry) → let s : Slots = run xs empty in SteadyAfter p i xs → Writing h s [] → Writing (writings_then h (steps_writings s x)) (step s x) []
+  pub step-writing : (h : Writings) (xs : List Entry) (x : Entry) → let s : Slots = run xs empty in SteadyAfter p i xs → Writing h s [] → Writing (writings_then h (step_writings s x)) (step s x) []
   step-writing h xs (Called c) k w =
       let s : Slots = run xs empty in
       called-writing h c s (call-steady p i xs c k, same-writing h s (begin c s).done.slots (begin c s).done.caused (call-same p i c s k.stands) w)

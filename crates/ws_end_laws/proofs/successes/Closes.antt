@@ -1,5 +1,5 @@
 -- How a pipe without an error leaves a destination that it was to close (`each_unfailing_pipe_closes`).
-use Rattle.std.proofs.Common.{◌≡◌, Bool, true, false, not, ◌&&◌, ◌⊎◌, inl, inr, nat_eq, ℕ, zero, suc, List, [], ◌∷◌, ◌++◌, Option, Some, None, Result, Ok, Err, slice_get, refl, sym, ap, subst, ◌∙◌, arith, if◌then◌else◌}
+use Rattle.std.proofs.Common.{◌≡◌, Bool, true, false, ◌⊎◌, inl, inr, nat_eq, ℕ, zero, suc, List, [], ◌∷◌, ◌++◌, Option, Some, None, Result, slice_get, refl, sym, ap, subst, ◌∙◌, arith}
 use Rattle.ws_value.specs.declared.ids.PipeId.{PipeId}
 use Rattle.ws_value.specs.declared.ids.PromiseId.{PromiseId}
 use Rattle.ws_value.specs.declared.ids.StreamId.{StreamId}
@@ -8,30 +8,26 @@ use Rattle.ws_steps.specs.declared.calls.Call.{Call}
 use Rattle.ws_steps.specs.declared.effects.Effect.{Effect}
 use Rattle.ws_steps.specs.declared.effects.Effect.TheVariants.{Writable, Pipe}
 use Rattle.ws_steps.specs.declared.pipes.{Action.{Action}, Action.TheVariants.{AbortDest, CancelSource, CloseDest, BySignal}, Ends.{Ends}, Phase.{Phase}, Phase.TheVariants.{Flowing, Waiting, Acting, Over}, PipeOperation.{PipeOperation}, PipeOperation.TheVariants.{ActionSettled}, Prevent.{Prevent}}
-use Rattle.ws_steps.specs.declared.promises.Job.{Job}
 use Rattle.ws_steps.specs.declared.writable.WritableOperation.{WritableOperation}
 use Rattle.ws_steps.specs.declared.writable.WritableOperation.TheVariants as names
 use Rattle.ws_steps.specs.Calls.{begin}
-use Rattle.ws_steps.specs.Effects.{Out}
 use Rattle.ws_steps.specs.Histories.{is_same}
 use Rattle.ws_steps.specs.Jobs.{job_effects}
 use Rattle.ws_steps.specs.Operations.{pipe_operation, writable_operation}
 use Rattle.ws_steps.specs.Pipes as pipe
 use Rattle.ws_steps.specs.Pipes.{is_flowing}
-use Rattle.ws_steps.specs.Promises.{Table, next_id, next_job, after_next_job, watch}
+use Rattle.ws_steps.specs.Promises.{Table, next_id, after_next_job, watch}
 use Rattle.ws_steps.specs.Run.{Entry, run, older, after_event}
-use Rattle.ws_steps.specs.Slots.{Slots, Done, Stream, empty, with_promises, as_writable, is_writable_stream, ends_at, put_pipe, on_pipe_at, on_writable, writable_at, has_writable, no_writable}
+use Rattle.ws_steps.specs.Slots.{Slots, Stream, empty, with_promises, as_writable, is_writable_stream, ends_at, put_pipe, on_pipe_at, on_writable, writable_at, has_writable}
 use Rattle.ws_steps.specs.Turns.{row}
-use Rattle.ws_steps.specs.Writable as writable
 use Rattle.ws_steps.specs.WritableHistory.{Writes}
-use Rattle.ws_laws.proofs.Apart.{row-pipes}
 use Rattle.ws_laws.proofs.Tables.{eq_numbers, no_writable_there, writable_acts}
 use Rattle.ws_laws.proofs.Walker.{Stays, run-stays}
 use Rattle.ws_laws.proofs.WritableDoes.{IsHandOn}
 use Rattle.ws_writable_laws.proofs.Agenda.{Kept, found, Elsewhere, row-leaves, same_or}
 use Rattle.ws_writable_laws.proofs.Expects.{abort_settled-expects}
 use Rattle.ws_promise_laws.proofs.Runs.{Straight, straight-stays, straight-heard, straight-empty}
-use Rattle.ws_pipe_laws.specs.pipes.PipeHistory.{is_live, is_over, shutdown, shutdown_by}
+use Rattle.ws_pipe_laws.specs.pipes.PipeHistory.{is_live}
 use Rattle.ws_pipe_laws.specs.pipes.PipeMoves.{starting, Move, MoveRests, MoveWaits, MoveActs, MoveEnds, MoveFinishes, IsNamed, acted, hears_action, shut_in}
 use Rattle.ws_pipe_laws.proofs.pipes.Courses.{place_same}
 use Rattle.ws_pipe_laws.proofs.pipes.Kept.{each_pipe_keeps_its_ends}
@@ -39,12 +35,13 @@ use Rattle.ws_pipe_laws.proofs.pipes.Moves.{each_pipe_moves}
 use Rattle.ws_end_laws.proofs.hosts.Acts.{NotOf}
 use Rattle.ws_end_laws.proofs.hosts.Dests.{own_after, row-there}
 use Rattle.ws_end_laws.proofs.hosts.Fates.{Neat}
-use Rattle.ws_end_laws.proofs.hosts.Making.{New, Adds, call-adds}
+use Rattle.ws_end_laws.proofs.hosts.Making.{Adds, call-adds}
 use Rattle.ws_end_laws.proofs.hosts.PipedMoves.{close_named}
 use Rattle.ws_end_laws.proofs.hosts.PipedRuns.{SamePlace, call-same}
 use Rattle.ws_end_laws.specs.successes.Successes.{EachUnfailingPipeCloses}
 use Rattle.ws_end_laws.proofs.successes.Sated.{wants, AbortEnds, operation-sated, propagating-sated}
-use Rattle.ws_end_laws.proofs.successes.Steady.{told_acting, other_there}
+use Rattle.ws_end_laws.proofs.hosts.Places.{told_acting, other_there}
+use Rattle.ws_laws.proofs.Truth.{false_true}
 
 -- the destination takes no more, by each effect
 
@@ -105,9 +102,6 @@ module _ (i : StreamId) where
   rests-past s (Closed q) = q
   rests-past s (Next d rest f) = absurd (cc)
 
-true_false : {A : Type 0} (b : Bool) → b ≡ true → b ≡ false → A
-true_false b e f = cc
-
 some_same : (x y : pipe.Slots) → ◌≡◌ {A = Option pipe.Slots} (Some x) (Some y) → x ≡ y
 some_same x y e = cc
 
@@ -137,7 +131,7 @@ module _ (p : PipeId) where
   other-row s e es n k = record {
     straight = straight-stays.row s e es k.straight;
     each = λ x f c.
-        let h : Holds x s (e ∷ es) = k.each x (sym (other_there p x.dest e s n) ∙ f) c in
+        let h : Holds x s (e ∷ es) = k.each x (sym (other_there p e s n) ∙ f) c in
         record { stands = row-there x.dest s e h.stands; plain = h.plain; late = λ l m. Closed (row-closing x.dest s e es k.straight (h.late l m)) };
   }
 
@@ -162,8 +156,8 @@ module _ (p : PipeId) where
     named_plain : (y : pipe.Slots) (phase : Phase) → x.phase ≡ phase → IsNamed ends operation x y → y.error ≡ None → y.action ≡ Some CloseDest
     named_plain y Flowing f m e = close_named x.prevent ends operation y.action y.error (m.starts f) e closes
     named_plain y Waiting f m e = let same = m.keeps f in same.0 ∙ h.plain (ap is_flowing f) (sym same.1 ∙ e)
-    named_plain y Acting f m e = true_false (is_live x.phase) m.live (ap is_live f)
-    named_plain y Over f m e = true_false (is_live x.phase) m.live (ap is_live f)
+    named_plain y Acting f m e = false_true (is_live x.phase) m.live (ap is_live f)
+    named_plain y Over f m e = false_true (is_live x.phase) m.live (ap is_live f)
 
     shut_dest : (c : PipeOperation) (phase : Phase) (a : Option Action) (e : Option Plain) → (shut_in c phase a e x).dest ≡ x.dest
     shut_dest c phase a e = grind arith
@@ -182,7 +176,7 @@ module _ (p : PipeId) where
     }
     moved b (MoveWaits f e m w o) =
         let phase : b.slots.phase ≡ Waiting = ap (λ (y : pipe.Slots). y.phase) e in
-        record { plain = λ l n. named_plain b.slots x.phase refl m n; late = λ l n. true_false (is_live b.slots.phase) (ap is_live phase) l }
+        record { plain = λ l n. named_plain b.slots x.phase refl m n; late = λ l n. false_true (is_live b.slots.phase) (ap is_live phase) l }
     moved b (MoveActs action w e m hw o same) =
         let is_action : w.action ≡ Some action = ap (λ (y : pipe.Slots). y.action) e in
         let plain : b.slots.error ≡ None → w.action ≡ Some CloseDest = λ n. named_plain w x.phase refl m (sym same.error ∙ n) in
@@ -214,7 +208,7 @@ module _ (p : PipeId) where
       let is : b.slots ≡ x = some_same b.slots x (sym (place_same s.pipes p.0 y b.slots e) ∙ f) in
       let closes : y.prevent.close ≡ false = sym (ap (λ (z : Prevent). z.close) kept.prevent) ∙ (ap (λ (z : pipe.Slots). z.prevent.close) is ∙ c) in
       let h : Holds y s (Pipe p operation ∷ es) = k.each y e closes in
-      let m : Moved s operation es y h closes (told_acting p y.dest s operation es y e (k.straight.waits p)) b = moved s operation es y h closes (told_acting p y.dest s operation es y e (k.straight.waits p)) b (each_pipe_moves p (ends_at y s) operation y s.promises) in
+      let m : Moved s operation es y h closes (told_acting p s operation es y e (k.straight.waits p)) b = moved s operation es y h closes (told_acting p s operation es y e (k.straight.waits p)) b (each_pipe_moves p (ends_at y s) operation y s.promises) in
       subst (λ (z : pipe.Slots). Holds z (put_pipe p s b).slots ((put_pipe p s b).caused ++ es)) is (record {
         stands = subst (λ (j : StreamId). has_writable j s ≡ true) (sym kept.dest) h.stands;
         plain = m.plain;
@@ -257,8 +251,8 @@ module _ (p : PipeId) where
       by (inl e) = let h = k.each x e o in same-holds x s (begin c s).done.slots (begin c s).done.caused (call-same p x.dest c s h.stands) h
       by (inr e) = rw e (record {
         stands = new.stands;
-        plain = λ l n. true_false (is_flowing new.slots.phase) (ap is_flowing new.flows) l;
-        late = λ l n. true_false (is_live new.slots.phase) (ap is_live new.flows) l;
+        plain = λ l n. false_true (is_flowing new.slots.phase) (ap is_flowing new.flows) l;
+        late = λ l n. false_true (is_live new.slots.phase) (ap is_live new.flows) l;
       })
 
   is-stays : Stays Is

@@ -21,10 +21,8 @@ use Rattle.ws_steps.specs.Writable as writable
 use Rattle.ws_steps.specs.Writable.{has_ended, is_closed, is_closing, is_writable}
 use Rattle.ws_laws.proofs.Apart.{row-streams}
 use Rattle.ws_laws.proofs.Outcomes.{Keeps, keeps-same, keeps-next, keeps-watch, keeps-entries}
-use Rattle.ws_laws.proofs.Rows.{row-changes}
-use Rattle.ws_laws.proofs.Stays.{keeps-changes}
 use Rattle.ws_laws.proofs.Tables.{eq_numbers}
-use Rattle.ws_laws.proofs.Truth.{and_left, and_right, not_false}
+use Rattle.ws_laws.proofs.Truth.{false_true, and_left, and_right, not_false}
 use Rattle.ws_laws.proofs.Walker.{IsHistory, performed-goes, nothing-told}
 use Rattle.ws_promise_laws.proofs.Holds.{named as named_once}
 use Rattle.ws_promise_laws.proofs.Runs.{Straight, straight-stays}
@@ -39,7 +37,7 @@ use Rattle.ws_end_laws.specs.ends.PassedAll.{is_failing}
 use Rattle.ws_end_laws.proofs.hosts.Acts.{NotOf}
 use Rattle.ws_end_laws.proofs.hosts.Doomed.{Doomed}
 use Rattle.ws_end_laws.proofs.hosts.PipedRuns.{run-last}
-use Rattle.ws_end_laws.proofs.hosts.Writing.{AllIn, Writings, no_writings, writings_then, writings-history, effect_writings}
+use Rattle.ws_end_laws.proofs.successes.Appended.{AllIn, Writings, no_writings, writings_then, writings-history, effect_writings}
 use Rattle.ws_end_laws.specs.successes.Successes.{IsUnrejected, FindsItUnfailing}
 use Rattle.ws_end_laws.proofs.successes.Appended.{Writing, Failed, Passed, About, row-writing, same-writing}
 use Rattle.ws_pipe_laws.proofs.writes.Settled as settling
@@ -47,14 +45,14 @@ use Rattle.ws_pipe_laws.proofs.writes.Settled.{all_settled, one_more, run-settle
 use Rattle.ws_end_laws.proofs.successes.Steady.{Steady, row-steady, last-locked, call-steady, job-steady, named-steady, older-steady, heard-steady}
 use Rattle.ws_end_laws.proofs.successes.Successes.{settled-all, all-among, not_doomed}
 use Rattle.ws_end_laws.proofs.successes.Unrejected.{line-open, all-open, all-map, run-lined, run-straight}
-use Rattle.ws_end_laws.proofs.successes.Hearing.{call-keeps}
+use Rattle.ws_end_laws.proofs.successes.Hearing.{call-keeps, keeps-row}
 use Rattle.ws_end_laws.specs.successes.Successes.{EachWriteOfAPipeThatFoundNoFailureSucceeded}
 use Rattle.ws_end_laws.proofs.hosts.PipedRuns.{call-there, call-same}
 use Rattle.ws_end_laws.proofs.hosts.Called.{place-last}
 use Rattle.ws_end_laws.proofs.hosts.Ended.{writable_open}
 use Rattle.ws_end_laws.proofs.hosts.Making.{New}
 use Rattle.ws_end_laws.proofs.hosts.Origins.{pipe-origin}
-use Rattle.ws_end_laws.proofs.hosts.Succeeded.{run-unmade, over_made}
+use Rattle.ws_end_laws.proofs.hosts.Made.{run-unmade, over_made}
 use Rattle.ws_end_laws.proofs.hosts.UnreadRuns.{none-made}
 use Rattle.ws_end_laws.specs.hosts.HostLaws.{next_pipe}
 use Rattle.ws_pipe_laws.proofs.locks.Runs.{Locked, locked-stays, run-locked}
@@ -63,16 +61,11 @@ use Rattle.ws_pipe_laws.specs.pipes.PipeHistory.{step_moments}
 use Rattle.ws_steps.specs.Run.{moments_in}
 use Rattle.ws_steps.specs.WritableHistory.{run_writes, run_promised}
 use Rattle.std.proofs.lemmas.List.Elements.{All-nil}
-use Rattle.ws_end_laws.proofs.successes.Wrote.{none_promised, other_there}
-
-true_false : {A : Type 0} (b : Bool) → b ≡ true → b ≡ false → A
-true_false b e f = cc
+use Rattle.ws_end_laws.proofs.successes.Wrote.{none_promised}
+use Rattle.ws_end_laws.proofs.hosts.Places.{other_there}
 
 some_pipe : (x y : pipe.Slots) → ◌≡◌ {A = Option pipe.Slots} (Some x) (Some y) → x ≡ y
 some_pipe x y e = cc
-
-keeps-row : (e : Effect) (s : Slots) → Keeps s.promises (row e s).slots.promises
-keeps-row e s = row-changes (Keeps s.promises) (keeps-changes s.promises) e s (keeps-same s.promises)
 
 all-keep : (t z : Table) (ds : List PromiseId) → Keeps t z → AllFulfilled t ds → AllFulfilled z ds
 all-keep t z ds k a = λ n d h. k.outcome (get_or ds n d) (Fulfilled Undefined) refl (a n d h)
@@ -138,9 +131,6 @@ module _ (p : PipeId) (i : StreamId) where
     pub promised : h.writings.promised ≡ h.both.promised
     pub late : is_live steady.x.phase ≡ false → AllMoments (FindsItUnfailing p) h.moments → AllFulfilled s.promises (promises_made p h.moments)
 
-  self : nat_eq p.0 p.0 ≡ true
-  self = grind arith
-
   -- one that isn't live makes no write
   late-none : (e : Effect) (s : Slots) (x : pipe.Slots) → slice_get s.pipes p.0 ≡ Some x → is_live x.phase ≡ false → effect_promises p e s ≡ []
   late-none (Pipe q operation) s x e l = by (nat_eq p.0 q.0) refl
@@ -176,7 +166,7 @@ module _ (p : PipeId) (i : StreamId) where
     among (About v d ms rest e f a open_) =
         let q : is_open_entry (entry_at z.promises d) ≡ true = about_open i z v d rest (subst (Straight z) e k.straight) in
         let n : is_pending_at d z.promises ≡ false = settled-last z.promises ms d (subst (AllSettled z.promises) (sym made ∙ f) all-settled) in
-        true_false (is_pending_at d z.promises) (open_pending z.promises d q) n
+        false_true (is_pending_at d z.promises) (open_pending z.promises d q) n
 
     unrejected : All (IsUnrejected z.promises) h.both.promised
     unrejected = lined-unrejected i z fs h.both k.straight k.stands state (o.lined k.straight.sound.holds.straight)
@@ -236,7 +226,7 @@ module _ (p : PipeId) (i : StreamId) where
   gone : (h : Tale) (s : Slots) (e : Effect) (es : List Effect) (k : Finding h s (e ∷ es)) → NotOf p e → is_live k.steady.x.phase ≡ true → is_live (row-steady p i s e es k.steady).x.phase ≡ false → ⊥
   gone h s e es k n l late =
       let is : k.steady.x ≡ (row-steady p i s e es k.steady).x = some_pipe k.steady.x (row-steady p i s e es k.steady).x (sym k.steady.there ∙ (sym (other_there p e s n) ∙ (row-steady p i s e es k.steady).there)) in
-      true_false (is_live k.steady.x.phase) l (ap (λ (y : pipe.Slots). is_live y.phase) is ∙ late)
+      false_true (is_live k.steady.x.phase) l (ap (λ (y : pipe.Slots). is_live y.phase) is ∙ late)
 
   row-now : (h : Tale) (s : Slots) (e : Effect) (es : List Effect) (k : Finding h s (e ∷ es)) → is_live k.steady.x.phase ≡ true → is_live (row-steady p i s e es k.steady).x.phase ≡ false
       → AllMoments (FindsItUnfailing p) (h.moments ++ effect_moment e s) → AllFulfilled (row e s).slots.promises (promises_made p (h.moments ++ effect_moment e s))
@@ -316,7 +306,7 @@ module _ (p : PipeId) (i : StreamId) where
       let s : Slots = run xs empty in
       called-finding h c s
       (begins-finding h s (begin c s).done.slots (begin c s).done.caused k (call-steady p i xs c k.steady) (call-there p i k.steady.x c s k.steady.there)
-      (same-writing p i h.writings s (begin c s).done.slots (begin c s).done.caused (call-same p i c s k.steady.stands) k.writing) ((settling.goes p).call h.moments s c k.settled) ((holds-goes i).call h.both s c k.holds) (call-keeps p c s))
+      (same-writing p i h.writings s (begin c s).done.slots (begin c s).done.caused (call-same p i c s k.steady.stands) k.writing) ((settling.goes p).call h.moments s c k.settled) ((holds-goes i).call h.both s c k.holds) (call-keeps c s))
   step-finding h xs Worked k = worked-finding h (run xs empty) k
   step-finding h xs Heard k = let s : Slots = run xs empty in resting h s (after_event s) (heard-finding h s (last-locked p i xs Heard) k)
 
@@ -378,7 +368,7 @@ module _ (before after : List Entry) (c : Call) (new : New (run before empty) (b
   }
 
   none-yet : promises_made p (run_moments before empty) ≡ []
-  none-yet = sym (over_made p y.dest before empty) ∙ run-unmade p before (past s.pipes)
+  none-yet = sym (over_made p before empty) ∙ run-unmade p before (past s.pipes)
 
   module _ (f : is_writable (writable_at y.dest opened).state && not (is_closing (writable_at y.dest opened)) ≡ true) where
     begun : Steady p y.dest opened (begin c s).done.caused
@@ -396,7 +386,7 @@ module _ (before after : List Entry) (c : Call) (new : New (run before empty) (b
         },
         new.calm,
       );
-      late = λ l. true_false (is_live y.phase) (ap is_live new.flows) l;
+      late = λ l. false_true (is_live y.phase) (ap is_live new.flows) l;
     }
 
     first-finding : Finding p y.dest first opened (begin c s).done.caused
@@ -407,7 +397,7 @@ module _ (before after : List Entry) (c : Call) (new : New (run before empty) (b
       holds = (holds-goes y.dest).call first.both s c (run-lined before y.dest);
       made = refl;
       promised = refl;
-      late = λ l. true_false (is_live begun.x.phase) (ap is_live (ap (λ (x : pipe.Slots). x.phase) (some_pipe begun.x y (sym begun.there ∙ there-now)) ∙ new.flows)) l;
+      late = λ l. false_true (is_live begun.x.phase) (ap is_live (ap (λ (x : pipe.Slots). x.phase) (some_pipe begun.x y (sym begun.there ∙ there-now)) ∙ new.flows)) l;
     }
 
     abbrev last : Tale
@@ -440,7 +430,7 @@ module _ (before after : List Entry) (c : Call) (new : New (run before empty) (b
       by true f = open-succeeded f x e l a
       by false f =
           none-fulfilled (run whole empty).promises (promises_made p (run_moments whole empty))
-          (sym (over_made p y.dest whole empty) ∙ none-made p y.dest before after c (run-unmade p before (past s.pipes)) new.stands f (record { slots = y; there = there-now; dest = refl; idle = new.idle }))
+          (sym (over_made p whole empty) ∙ none-made p y.dest before after c (run-unmade p before (past s.pipes)) new.stands f (record { slots = y; there = there-now; dest = refl; idle = new.idle }))
 
 pub each_write_of_a_pipe_that_found_no_failure_succeeded : EachWriteOfAPipeThatFoundNoFailureSucceeded
 each_write_of_a_pipe_that_found_no_failure_succeeded entries p x e l a =

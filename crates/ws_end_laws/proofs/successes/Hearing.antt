@@ -1,150 +1,74 @@
--- What a pipe hears of its action, and how it ends by that (`each_outcome_heard_is_the_promises`, `each_pipe_ends_as_its_action`).
-use Rattle.std.proofs.Common.{◌≡◌, ◌≢◌, ◌⊎◌, inl, inr, ℕ, zero, suc, ◌≤◌, Bool, true, false, not, ◌&&◌, nat_eq, if◌then◌else◌, List, [], ◌∷◌, ◌++◌, length, Option, Some, None, Result, slice_get, refl, sym, ap, subst, ◌∙◌, arith, append_assoc, append-nil}
-use Rattle.ws_value.specs.declared.{ids.PipeId.{PipeId}, ids.PromiseId.{PromiseId}, ids.SignalId.{SignalId}}
+-- What a pipe hears of its action, and of a part of it (`each_outcome_heard_is_the_promises`, `each_outcome_of_a_part_is_its_promises`).
+use Rattle.std.proofs.Common.{◌≡◌, List, [], ◌∷◌, ◌++◌, length, Some, Result, refl, sym, ap, subst, ◌∙◌, append_assoc, append-nil}
+use Rattle.ws_value.specs.declared.{ids.PipeId.{PipeId}, ids.PromiseId.{PromiseId}}
 use Rattle.ws_value.specs.declared.value.{Plain.{Plain}}
 use Rattle.ws_steps.specs.declared.calls.{Call.{Call}, Event.{Event}, HostCall.{HostCall}, Event.TheVariants.{Host as HostCalled}}
 use Rattle.ws_steps.specs.declared.effects.Effect.{Effect}
-use Rattle.ws_steps.specs.declared.effects.Effect.TheVariants.{Pipe, Give, CallHost, Settle}
+use Rattle.ws_steps.specs.declared.effects.Effect.TheVariants.{Pipe, Give, CallHost}
 use Rattle.ws_steps.specs.declared.{effects.Gift.{Gift}, effects.Gift.TheVariants.{This, Fresh}, effects.Use.{Use}, effects.Use.TheVariants.{React, Resolve}}
-use Rattle.ws_steps.specs.declared.pipes.{Action.{Action}, Action.TheVariants.{AbortDest, CancelSource, CloseDest, BySignal}, Ends.{Ends}, Phase.{Phase}, Phase.TheVariants.{Flowing, Waiting, Acting, Over}, PipeOperation.{PipeOperation}, PipeOperation.TheVariants.{ActionSettled}}
+use Rattle.ws_steps.specs.declared.pipes.{PipeOperation.{PipeOperation}, PipeOperation.TheVariants.{ActionSettled, PartSettled}}
 use Rattle.ws_steps.specs.declared.promises.{Job.{Job}}
 use Rattle.ws_steps.specs.Calls.{begin}
-use Rattle.ws_steps.specs.Effects.{Out}
-use Rattle.ws_steps.specs.Histories.{along, over}
 use Rattle.ws_steps.specs.Jobs.{job_effects}
-use Rattle.ws_steps.specs.Operations.{pipe_operation}
 use Rattle.ws_steps.specs.Pipes as pipe
-use Rattle.ws_steps.specs.Promises.{Table, settled, outcome_at, fresh, fresh_settled, tell, use_this, use_gift, next_id, first_job, after_next_job, watch}
-use Rattle.ws_steps.specs.Run.{Entry, run, step, after_event, moments_in}
-use Rattle.ws_steps.specs.Slots.{Slots, Done, empty, with_promises, as_pipe, pipe_at, ends_at, put_pipe, on_pipe_at}
+use Rattle.ws_steps.specs.Promises.{Table, fresh, fresh_settled, tell, use_this, use_gift, next_id, first_job, after_next_job, watch}
+use Rattle.ws_steps.specs.Run.{Entry, run, step, after_event}
+use Rattle.ws_steps.specs.Slots.{Slots, empty, with_promises}
 use Rattle.ws_steps.specs.Turns.{Moment, row, call_host}
-use Rattle.ws_steps.proofs.PromiseLaws.{slice_get-set_other}
-use Rattle.ws_laws.proofs.Apart.{row-pipes}
 use Rattle.ws_laws.proofs.Begin.{begin-makes}
 use Rattle.ws_laws.proofs.Lists.{Each, each-append}
-use Rattle.ws_laws.proofs.Outcomes.{Keeps, keeps-same, keeps-then, keeps-fresh, keeps-next, keeps-watch, keeps-entries}
+use Rattle.ws_laws.proofs.Outcomes.{Keeps, keeps-same, keeps-then, keeps-fresh, keeps-next, keeps-entries}
 use Rattle.ws_laws.proofs.Rows.{row-changes}
 use Rattle.ws_laws.proofs.Stays.{keeps-changes}
-use Rattle.ws_laws.proofs.Tables.{eq_numbers, unequal_numbers}
 use Rattle.ws_laws.proofs.Walker.{GoesUntold, run-holds}
-use Rattle.ws_promise_laws.proofs.Acting.{EachWaits, Waits, waits-stays, waits-heard, none-waits}
-use Rattle.ws_promise_laws.proofs.PipeActs.{acts_now}
-use Rattle.ws_promise_laws.proofs.Tokens.{one_if}
-use Rattle.ws_pipe_laws.specs.pipes.PipeHistory.{shutdown, is_live, is_over, error_after, ended_by, came_to_end, operation_course, no_course, course_then, effect_course, run_course, effect_moment, step_moments, run_moments, Course}
-use Rattle.ws_pipe_laws.specs.pipes.PipeMoves.{starting, Move, MoveRests, MoveWaits, MoveActs, MoveEnds, MoveFinishes, is_idle, are_idle, acted, dest_aborted, signalled, end_effects, signal_forgets, result_by}
-use Rattle.ws_pipe_laws.specs.pipes.PipeReads.{HasEnded, WithoutAction, AfterAction, IsCourseAt}
+use Rattle.ws_pipe_laws.specs.pipes.PipeHistory.{effect_moment, run_moments}
 use Rattle.ws_pipe_laws.specs.pipes.PipeWrites.{AllSince}
-use Rattle.ws_pipe_laws.proofs.pipes.Courses.{place_same, each_pipe_has_a_course}
-use Rattle.ws_pipe_laws.proofs.pipes.Moves.{each_pipe_moves}
 use Rattle.ws_pipe_laws.proofs.writes.Orderly.{moment, moments_history}
-use Rattle.ws_end_laws.specs.ends.PromiseEnds.{outcome_of_end}
-use Rattle.ws_end_laws.proofs.ends.PromiseEnds.{each_promise_is_open_until_the_end}
-use Rattle.ws_end_laws.proofs.hosts.Acts.{acts_on, NoUse, NotOf}
-use Rattle.ws_end_laws.proofs.hosts.Called.{place-grows}
-use Rattle.ws_end_laws.proofs.hosts.Making.{Adds, call-adds}
-use Rattle.ws_end_laws.proofs.hosts.PipedRows.{effect_ends}
+use Rattle.ws_end_laws.proofs.hosts.Places.{self}
 use Rattle.ws_end_laws.proofs.hosts.Plain.{row-plainly}
-use Rattle.ws_end_laws.specs.successes.Heard.{heard_in, effect_heard, promises_heard, Among, IsOutcome, EachOutcomeHeardIsThePromises, EachPipeEndsAsItsAction}
+use Rattle.ws_end_laws.specs.successes.Heard.{Awaited, ItsAction, APart, is_reaction, effect_heard, promises_heard, Among, IsOutcome, EachOutcomeHeardIsThePromises, EachOutcomeOfAPartIsItsPromises}
 use Rattle.ws_end_laws.proofs.successes.Reacts.{JobFits, JobsFit, Heeds, heeds-more, outcome-keeps, react-heeds, either-heeds, follow-heeds, fresh-heeds, settle-heeds, tell-heeds, watch-heeds, next-heeds, same-heeds, heeds-plainly}
-use Rattle.ws_end_laws.proofs.successes.Hears.{Fits, OwnOf, caused-fit, call-fits, job-effects-fit, each-weaker, among-left, all-in, none-heard}
+use Rattle.ws_end_laws.proofs.successes.Hears.{NoUse, Fits, OwnOf, caused-fit, call-fits, job-effects-fit, each-weaker, among-left, all-in}
 
-true_false : {A : Type 0} (b : Bool) → b ≡ true → b ≡ false → A
-true_false b e f = cc
+-- the operation by which a pipe is told so
+abbrev pub tells : Awaited → Result Plain Plain → PipeOperation
+tells ItsAction o = ActionSettled o
+tells APart o = PartSettled o
 
--- promises in a row
+told_now : (what : Awaited) (p : PipeId) (P : PromiseId → Type 0) (V : Result Plain Plain → Type 0) (o : Result Plain Plain) → Fits what p P V (Pipe p (tells what o)) → V o
+told_now ItsAction p P V o f = f (self p)
+told_now APart p P V o f = f (self p)
 
-module _ (p : PipeId) where
-  -- the ends in these moments
-  abbrev pub ends_in : List Moment → List (Option Plain)
-  ends_in ms = along [] ◌++◌ (effect_ends p) ms
+pub keeps-row : (e : Effect) (s : Slots) → Keeps s.promises (row e s).slots.promises
+keeps-row e s = row-changes (Keeps s.promises) (keeps-changes s.promises) e s (keeps-same s.promises)
 
-  pub heard-append : (ms ns : List Moment) → promises_heard p (ms ++ ns) ≡ promises_heard p ms ++ promises_heard p ns
+pub call-keeps : (c : Call) (s : Slots) → Keeps s.promises (begin c s).done.slots.promises
+call-keeps c s = begin-makes (λ z. Keeps s.promises z.promises) (record {
+  promise = λ z m. keeps-then s.promises z.promises (fresh z.promises) m (keeps-fresh z.promises);
+  locks = λ z ls m. m;
+  hosts = λ z hs m. m;
+  pipe = λ z source dest prevent signal promise m. m;
+  signal = λ z m. m;
+  transform = λ z kind half other change m. m;
+  tee = λ z source first second cancel m. m;
+  port = λ z side stream backpressure m. m;
+  bytes = λ z mark auto m. m;
+  byob_requests = λ z hs m. m;
+  readable = λ z owner mark size m. m;
+  writable = λ z owner mark size m. m;
+}) c s (keeps-same s.promises)
+
+since-append : (Q : List Moment → Moment → Type 0) (past ms : List Moment) (m : Moment) → AllSince Q past ms → Q (past ++ ms) m → AllSince Q past (ms ++ m ∷ [])
+since-append Q past [] m a q = (subst (λ (h : List Moment). Q h m) (append-nil past) q, tt)
+since-append Q past (x ∷ ms) m a q = (a.0, since-append Q (past ++ x ∷ []) ms m a.1 (subst (λ (h : List Moment). Q h m) (sym (append_assoc past (x ∷ []) ms)) q))
+
+module _ (what : Awaited) (p : PipeId) where
+  pub heard-append : (ms ns : List Moment) → promises_heard what p (ms ++ ns) ≡ promises_heard what p ms ++ promises_heard what p ns
   heard-append [] ns = refl
-  heard-append (m ∷ ms) ns = ap (λ (ds : List PromiseId). effect_heard p m.effect m.found ++ ds) (heard-append ms ns) ∙ sym (append_assoc (effect_heard p m.effect m.found) (promises_heard p ms) (promises_heard p ns))
+  heard-append (m ∷ ms) ns = ap (λ (ds : List PromiseId). effect_heard what p m.effect m.found ++ ds) (heard-append ms ns) ∙ sym (append_assoc (effect_heard what p m.effect m.found) (promises_heard what p ms) (promises_heard what p ns))
 
-  one_heard : (ms : List Moment) (e : Effect) (s : Slots) → promises_heard p (ms ++ moment e s ∷ []) ≡ promises_heard p ms ++ effect_heard p e s
-  one_heard ms e s = heard-append ms (moment e s ∷ []) ∙ ap (λ (ds : List PromiseId). promises_heard p ms ++ ds) (append-nil (effect_heard p e s))
-
-  ends-append : (ms ns : List Moment) → ends_in (ms ++ ns) ≡ ends_in ms ++ ends_in ns
-  ends-append [] ns = refl
-  ends-append (m ∷ ms) ns = ap (λ (es : List (Option Plain)). effect_ends p m.effect m.found ++ es) (ends-append ms ns) ∙ sym (append_assoc (effect_ends p m.effect m.found) (ends_in ms) (ends_in ns))
-
-  one_end : (ms : List Moment) (e : Effect) (s : Slots) → ends_in (ms ++ moment e s ∷ []) ≡ ends_in ms ++ effect_ends p e s
-  one_end ms e s = ends-append ms (moment e s ∷ []) ∙ ap (λ (es : List (Option Plain)). ends_in ms ++ es) (append-nil (effect_ends p e s))
-
-  along_moments : (ms : List Moment) → along [] ◌++◌ effect_moment ms ≡ ms
-  along_moments [] = refl
-  along_moments (m ∷ ms) = ap (λ (ns : List Moment). m ∷ ns) (along_moments ms)
-
-  along_ends : (ms : List Moment) → (along no_course course_then (effect_course p) ms).ended ≡ ends_in ms
-  along_ends [] = refl
-  along_ends (m ∷ ms) = ap (λ (es : List (Option Plain)). effect_ends p m.effect m.found ++ es) (along_ends ms)
-
-  pub over_ends : (xs : List Entry) (s : Slots) → (run_course p xs s).ended ≡ ends_in (run_moments xs s)
-  over_ends [] s = refl
-  over_ends (x ∷ xs) s =
-      ap (λ (es : List (Option Plain)). es ++ (run_course p xs (step s x)).ended) (along_ends (moments_in s x) ∙ ap ends_in (sym (along_moments (moments_in s x))))
-      ∙ (ap (λ (es : List (Option Plain)). ends_in (step_moments s x) ++ es) (over_ends xs (step s x)) ∙ sym (ends-append (step_moments s x) (run_moments xs (step s x))))
-
-  since-append : (Q : List Moment → Moment → Type 0) (past ms : List Moment) (m : Moment) → AllSince Q past ms → Q (past ++ ms) m → AllSince Q past (ms ++ m ∷ [])
-  since-append Q past [] m a q = (subst (λ (h : List Moment). Q h m) (append-nil past) q, tt)
-  since-append Q past (x ∷ ms) m a q = (a.0, since-append Q (past ++ x ∷ []) ms m a.1 (subst (λ (h : List Moment). Q h m) (sym (append_assoc past (x ∷ []) ms)) q))
-
-  -- what effects of a pipe give
-
-  idle_none : (es : List Effect) → are_idle es ≡ true → heard_in p es ≡ []
-  idle_none [] n = refl
-  idle_none (e ∷ es) n = first e (grind (arith, n)) ∙ idle_none es (grind (arith, n))
-    where
-      first : (e : Effect) → is_idle e ≡ true → heard_in p (e ∷ es) ≡ heard_in p es
-      first e n = grind (arith, n)
-
-  end_none : (x : pipe.Slots) (e : Option Plain) → heard_in p (end_effects p x e) ≡ []
-  end_none x e = by x.signal
-    where
-      by : (a : Option SignalId) → heard_in p (signal_forgets p a ++ Settle x.promise (result_by e) ∷ []) ≡ []
-      by None = refl
-      by (Some a) = refl
-
-  self : nat_eq p.0 p.0 ≡ true
-  self = grind arith
-
-  -- an action gives one
-  pub acted_one : (ends : Ends) (y : pipe.Slots) (t : Table) (action : Action) → (d : PromiseId) × (heard_in p (acted p ends y t action).out.effects ≡ d ∷ [])
-  acted_one ends y t (AbortDest r) = by ends.dest_abort
-    where
-      by : (a : Option PromiseId) → (d : PromiseId) × (heard_in p (dest_aborted p r y t a).out.effects ≡ d ∷ [])
-      by (Some d) = (d, rw self refl)
-      by None = (next_id t, rw self refl)
-  acted_one ends y t (CancelSource r) = (next_id t, rw self refl)
-  acted_one ends y t CloseDest = (next_id t, rw self refl)
-  acted_one ends y t (BySignal r) = by y.prevent.abort y.prevent.cancel
-    where
-      by : (a c : Bool) → (d : PromiseId) × (heard_in p (signalled p r y t a c).out.effects ≡ d ∷ [])
-      by false false = (next_id (fresh (fresh t)), rw self refl)
-      by false true = (next_id (fresh t), rw self refl)
-      by true false = (next_id (fresh t), rw self refl)
-      by true true = (next_id t, rw self refl)
-
-  -- the story of the pipe in a place: the promises to which it is to react so, and its ends
-  pub record Told (ds : List PromiseId) (ended : List (Option Plain)) (t : Table) (x : pipe.Slots) : Type 0 where
-    pub live : is_live x.phase ≡ true → ds ≡ []
-    pub late : is_live x.phase ≡ false → x.action ≢ None → (d : PromiseId) × (ds ≡ d ∷ [])
-    pub before : is_over x.phase ≡ false → ended ≡ []
-    pub over : is_over x.phase ≡ true → x.action ≢ None → (o : Result Plain Plain) × (IsOutcome t ds o × (ended ≡ error_after x.error o ∷ []))
-
-  abbrev pub Story : List PromiseId → List (Option Plain) → Table → Option pipe.Slots → Type 0
-  Story ds ended t None = (ds ≡ []) × (ended ≡ [])
-  Story ds ended t (Some x) = Told ds ended t x
-
-  story-keeps : (ds : List PromiseId) (ended : List (Option Plain)) (t z : Table) (o : Option pipe.Slots) → Keeps t z → Story ds ended t o → Story ds ended z o
-  story-keeps ds ended t z None k w = w
-  story-keeps ds ended t z (Some x) k w = record {
-    live = w.live;
-    late = w.late;
-    before = w.before;
-    over = λ e n. let a = w.over e n in (a.0, (outcome-keeps t z ds a.0 k a.1.0, a.1.1));
-  }
+  pub one_heard : (ms : List Moment) (e : Effect) (s : Slots) → promises_heard what p (ms ++ moment e s ∷ []) ≡ promises_heard what p ms ++ effect_heard what p e s
+  one_heard ms e s = heard-append ms (moment e s ∷ []) ∙ ap (λ (ds : List PromiseId). promises_heard what p ms ++ ds) (append-nil (effect_heard what p e s))
 
   abbrev pub V : List PromiseId → Slots → Result Plain Plain → Type 0
   V ds s o = IsOutcome s.promises ds o
@@ -152,281 +76,71 @@ module _ (p : PipeId) where
   abbrev pub P : List PromiseId → PromiseId → Type 0
   P ds q = Among q ds
 
-  abbrev Truly : List Moment → Moment → Type 0
-  Truly past m = (o : Result Plain Plain) → m.effect ≡ Pipe p (ActionSettled o) → IsOutcome m.found.promises (promises_heard p past) o
+  abbrev pub Truly : List Moment → Moment → Type 0
+  Truly past m = (o : Result Plain Plain) → m.effect ≡ Pipe p (tells what o) → IsOutcome m.found.promises (promises_heard what p past) o
 
+  -- what was told so far is the outcome of one of these promises, and so is what will be
   pub record Hearing (h : List Moment) (s : Slots) (es : List Effect) : Type 0 where
     pub truly : AllSince Truly [] h
-    pub waits : EachWaits s es
-    pub heeds : Heeds (acts_on p) (promises_heard p h) s.promises
-    pub fits : Each (Fits p (P (promises_heard p h)) (V (promises_heard p h) s)) es
-    pub story : Story (promises_heard p h) (ends_in h) s.promises (slice_get s.pipes p.0)
+    pub heeds : Heeds (is_reaction what p) (promises_heard what p h) s.promises
+    pub fits : Each (Fits what p (P (promises_heard what p h)) (V (promises_heard what p h) s)) es
 
   -- promises, by an effect
 
-  use-heeds : (ds : List PromiseId) (q : PromiseId) (t : Table) (u : Use) → NoUse p u → Heeds (acts_on p) ds t → Heeds (acts_on p) ds (use_this q t u)
-  use-heeds ds q t (React step d) n g = react-heeds (acts_on p) ds q _ t n g
-  use-heeds ds q t (Resolve r) n g = follow-heeds (acts_on p) ds r q t g
+  use-heeds : (ds : List PromiseId) (q : PromiseId) (t : Table) (u : Use) → NoUse what p u → Heeds (is_reaction what p) ds t → Heeds (is_reaction what p) ds (use_this q t u)
+  use-heeds ds q t (React step d) n g = react-heeds (is_reaction what p) ds q _ t n g
+  use-heeds ds q t (Resolve r) n g = follow-heeds (is_reaction what p) ds r q t g
 
-  gift-heeds : (ds : List PromiseId) (W : Result Plain Plain → Type 0) (gift : Gift) (u : Use) (t : Table) → Fits p (P ds) W (Give gift u) → Heeds (acts_on p) ds t → Heeds (acts_on p) ds (use_gift gift u t)
+  gift-heeds : (ds : List PromiseId) (W : Result Plain Plain → Type 0) (gift : Gift) (u : Use) (t : Table) → Fits what p (P ds) W (Give gift u) → Heeds (is_reaction what p) ds t → Heeds (is_reaction what p) ds (use_gift gift u t)
   unfolding use_gift
-  gift-heeds ds W (This q) (React step d) t f g = either-heeds (acts_on p) ds q step d t (acts_on p step) refl f g
-  gift-heeds ds W (This q) (Resolve r) t f g = follow-heeds (acts_on p) ds r q t g
-  gift-heeds ds W (Fresh o) u t f g = use-heeds ds (next_id t) (fresh_settled o t) u f (settle-heeds (acts_on p) ds (fresh t) (next_id t) o (fresh-heeds (acts_on p) ds t g))
+  gift-heeds ds W (This q) (React step d) t f g = either-heeds (is_reaction what p) ds q step d t (is_reaction what p step) refl f g
+  gift-heeds ds W (This q) (Resolve r) t f g = follow-heeds (is_reaction what p) ds r q t g
+  gift-heeds ds W (Fresh o) u t f g = use-heeds ds (next_id t) (fresh_settled o t) u f (settle-heeds (is_reaction what p) ds (fresh t) (next_id t) o (fresh-heeds (is_reaction what p) ds t g))
 
-  host-heeds : (ds : List PromiseId) (s : Slots) (call : HostCall) (u : Use) → NoUse p u → Heeds (acts_on p) ds s.promises → Heeds (acts_on p) ds (call_host call u s).promises
+  host-heeds : (ds : List PromiseId) (s : Slots) (call : HostCall) (u : Use) → NoUse what p u → Heeds (is_reaction what p) ds s.promises → Heeds (is_reaction what p) ds (call_host call u s).promises
   unfolding call_host
   host-heeds ds s call u n g =
       let told : Event = HostCalled (record { 0 = length s.hosts }) call in
-      use-heeds ds (next_id s.promises) (tell told (fresh s.promises)) u n (tell-heeds (acts_on p) ds told (fresh s.promises) (fresh-heeds (acts_on p) ds s.promises g))
+      use-heeds ds (next_id s.promises) (tell told (fresh s.promises)) u n (tell-heeds (is_reaction what p) ds told (fresh s.promises) (fresh-heeds (is_reaction what p) ds s.promises g))
 
-  row-heeds : (ds : List PromiseId) (W : Result Plain Plain → Type 0) (s : Slots) (e : Effect) → Fits p (P ds) W e → Heeds (acts_on p) ds s.promises → Heeds (acts_on p) ds (row e s).slots.promises
+  row-heeds : (ds : List PromiseId) (W : Result Plain Plain → Type 0) (s : Slots) (e : Effect) → Fits what p (P ds) W e → Heeds (is_reaction what p) ds s.promises → Heeds (is_reaction what p) ds (row e s).slots.promises
   unfolding row
   row-heeds ds W s (Give gift u) f g = gift-heeds ds W gift u s.promises f g
   row-heeds ds W s (CallHost call u) f g = host-heeds ds s call u f g
-  row-heeds ds W s e f g = row-plainly (Heeds (acts_on p) ds) (heeds-plainly (acts_on p) ds) e s tt g
-
-  keeps-row : (e : Effect) (s : Slots) → Keeps s.promises (row e s).slots.promises
-  keeps-row e s = row-changes (Keeps s.promises) (keeps-changes s.promises) e s (keeps-same s.promises)
-
-  -- the pipe, by an effect
-
-  some_action : (a b : Option Action) → a ≡ b → b ≢ None → a ≢ None
-  some_action a b e n f = n (sym e ∙ f)
-
-  came_none : (operation : PipeOperation) (x y : pipe.Slots) → y.phase ≡ x.phase → came_to_end operation x y ≡ []
-  came_none operation x y e = by (is_over x.phase) (is_over y.phase) (ap is_over e)
-    where
-      by : (b c : Bool) → c ≡ b → (if not b && c then ended_by operation y ∷ [] else []) ≡ []
-      by true c e = refl
-      by false true e = absurd (cc)
-      by false false e = refl
-
-  came_open : (operation : PipeOperation) (x y : pipe.Slots) → is_over y.phase ≡ false → came_to_end operation x y ≡ []
-  came_open operation x y e = by (is_over x.phase) (is_over y.phase) e
-    where
-      by : (b c : Bool) → c ≡ false → (if not b && c then ended_by operation y ∷ [] else []) ≡ []
-      by true c e = refl
-      by false true e = absurd (cc)
-      by false false e = refl
-
-  live_open : (phase : Phase) → is_live phase ≡ true → is_over phase ≡ false
-  live_open phase e = grind (arith, e)
-
-  module _ (ds : List PromiseId) (ended : List (Option Plain)) (operation : PipeOperation) (ends : Ends) (x : pipe.Slots) (t : Table) (w : Told ds ended t x)
-      (acting : (o : Result Plain Plain) → operation ≡ ActionSettled o → x.phase ≡ Acting) (hears : (o : Result Plain Plain) → operation ≡ ActionSettled o → IsOutcome t ds o) where
-    abbrev After : pipe.Acts → Type 0
-    After b = Told (ds ++ heard_in p b.out.effects) (ended ++ came_to_end operation x b.slots) t b.slots
-
-    -- nothing is given
-    with_none : (b : pipe.Acts) → heard_in p b.out.effects ≡ [] → Told ds (ended ++ came_to_end operation x b.slots) t b.slots → After b
-    with_none b e k = subst (λ (cs : List PromiseId). Told cs (ended ++ came_to_end operation x b.slots) t b.slots) (sym (ap (λ (cs : List PromiseId). ds ++ cs) e ∙ append-nil ds)) k
-
-    unended : (b : pipe.Acts) (cs : List PromiseId) → came_to_end operation x b.slots ≡ [] → Told cs ended t b.slots → Told cs (ended ++ came_to_end operation x b.slots) t b.slots
-    unended b cs e k = subst (λ (es : List (Option Plain)). Told cs es t b.slots) (sym (ap (λ (es : List (Option Plain)). ended ++ es) e ∙ append-nil ended)) k
-
-    move-told : (b : pipe.Acts) → Move p ends operation x t b → After b
-    move-told b (MoveRests f a e idle) =
-        with_none b (idle_none b.out.effects idle) (unended b ds (came_none operation x b.slots f) (record {
-          live = λ l. w.live (sym (ap is_live f) ∙ l);
-          late = λ l n. w.late (sym (ap is_live f) ∙ l) (some_action x.action b.slots.action (sym a) n);
-          before = λ l. w.before (sym (ap is_over f) ∙ l);
-          over = λ l n. let k = w.over (sym (ap is_over f) ∙ l) (some_action x.action b.slots.action (sym a) n) in (k.0, (k.1.0, k.1.1 ∙ ap (λ (c : Option Plain). error_after c k.0 ∷ []) (sym e)));
-        }))
-    move-told b (MoveWaits f e m wf o) =
-        let phase : b.slots.phase ≡ Waiting = ap (λ (y : pipe.Slots). y.phase) e in
-        with_none b (ap (λ (z : Out). heard_in p z.effects) o) (unended b ds (came_open operation x b.slots (ap is_over phase)) (record {
-          live = λ l. w.live (ap is_live f);
-          late = λ l n. true_false (is_live b.slots.phase) (ap is_live phase) l;
-          before = λ l. w.before (ap is_over f);
-          over = λ l n. true_false (is_over b.slots.phase) l (ap is_over phase);
-        }))
-    move-told b (MoveActs action y e m h o alike) =
-        let phase : b.slots.phase ≡ Acting = alike.phase ∙ ap (λ (y : pipe.Slots). y.phase) e in
-        let one = acted_one ends y t action in
-        let heard : ds ++ heard_in p b.out.effects ≡ one.0 ∷ [] =
-        ap (λ (cs : List PromiseId). cs ++ heard_in p b.out.effects) (w.live m.live) ∙ (ap (λ (z : pipe.Acts). heard_in p z.out.effects) o ∙ one.1) in
-        unended b (ds ++ heard_in p b.out.effects) (came_open operation x b.slots (ap is_over phase)) (record {
-          live = λ l. true_false (is_live b.slots.phase) l (ap is_live phase);
-          late = λ l n. (one.0, heard);
-          before = λ l. w.before (live_open x.phase m.live);
-          over = λ l n. true_false (is_over b.slots.phase) l (ap is_over phase);
-        })
-    move-told b (MoveEnds e m h o) =
-        let phase : b.slots.phase ≡ Over = ap (λ (y : pipe.Slots). y.phase) e in
-        let action : b.slots.action ≡ None = ap (λ (y : pipe.Slots). y.action) e in
-        with_none b (ap (λ (z : Out). heard_in p z.effects) o ∙ end_none x b.slots.error) (record {
-          live = λ l. true_false (is_live b.slots.phase) l (ap is_live phase);
-          late = λ l n. absurd (n action);
-          before = λ l. true_false (is_over b.slots.phase) (ap is_over phase) l;
-          over = λ l n. absurd (n action);
-        })
-    move-told b (MoveFinishes r f e o) =
-        let was : x.phase ≡ Acting = acting r f in
-        let phase : b.slots.phase ≡ Over = ap (λ (y : pipe.Slots). y.phase) e in
-        let action : b.slots.action ≡ x.action = ap (λ (y : pipe.Slots). y.action) e in
-        let error : b.slots.error ≡ x.error = ap (λ (y : pipe.Slots). y.error) e in
-        let came : came_to_end operation x b.slots ≡ error_after b.slots.error r ∷ [] = now b r was phase f in
-        with_none b (ap (λ (z : Out). heard_in p z.effects) o ∙ end_none x (error_after x.error r)) (record {
-          live = λ l. true_false (is_live b.slots.phase) l (ap is_live phase);
-          late = λ l n. w.late (ap is_live was) (some_action x.action b.slots.action (sym action) n);
-          before = λ l. true_false (is_over b.slots.phase) (ap is_over phase) l;
-          over = λ l n. (r, (hears r f, ap (λ (es : List (Option Plain)). es ++ came_to_end operation x b.slots) (w.before (ap is_over was)) ∙ came));
-        })
-      where
-        now : (b : pipe.Acts) (r : Result Plain Plain) → x.phase ≡ Acting → b.slots.phase ≡ Over → operation ≡ ActionSettled r → came_to_end operation x b.slots ≡ error_after b.slots.error r ∷ []
-        now b r was phase f = rw (was, phase, f) refl
-
-  acting_phase : (x : pipe.Slots) (phase : Phase) → x.phase ≡ phase → 1 ≤ one_if (acts_now (Some x)) → x.phase ≡ Acting
-  acting_phase x Acting e n = e
-  acting_phase x Flowing e n = let m : 1 ≤ 0 = rw e at n in absurd (omega arith)
-  acting_phase x Waiting e n = let m : 1 ≤ 0 = rw e at n in absurd (omega arith)
-  acting_phase x Over e n = let m : 1 ≤ 0 = rw e at n in absurd (omega arith)
-
-  told_acting : (s : Slots) (operation : PipeOperation) (es : List Effect) (x : pipe.Slots) → slice_get s.pipes p.0 ≡ Some x → Waits p s (Pipe p operation ∷ es) → (o : Result Plain Plain) → operation ≡ ActionSettled o → x.phase ≡ Acting
-  told_acting s operation es x there w o e =
-      let v : Waits p s (Pipe p (ActionSettled o) ∷ es) = subst (λ (c : PipeOperation). Waits p s (Pipe p c ∷ es)) e w in
-      let one : one_if (nat_eq p.0 p.0) ≡ 1 = ap one_if self in
-      let n : 1 ≤ one_if (acts_now (slice_get s.pipes p.0)) = omega (arith, v, one) in
-      acting_phase x x.phase refl (rw there at n)
-
-  -- the story goes on by an effect
-
-  abbrev Goes : List PromiseId → List (Option Plain) → Slots → Effect → Type 0
-  Goes ds ended s e = Story (ds ++ effect_heard p e s) (ended ++ effect_ends p e s) (row e s).slots.promises (slice_get (row e s).slots.pipes p.0)
-
-  own_ends : (operation : PipeOperation) (s : Slots) → effect_ends p (Pipe p operation) s ≡ came_to_end operation (pipe_at p s) (pipe_at p (row (Pipe p operation) s).slots)
-  own_ends operation s = ap (λ (c : Bool). (if c then operation_course operation (pipe_at p s) (pipe_at p (row (Pipe p operation) s).slots) else no_course).ended) self
-
-  own-story : (ds : List PromiseId) (ended : List (Option Plain)) (operation : PipeOperation) (s : Slots) (es : List Effect) (o : Option pipe.Slots) → slice_get s.pipes p.0 ≡ o → Waits p s (Pipe p operation ∷ es)
-      → ((r : Result Plain Plain) → operation ≡ ActionSettled r → IsOutcome s.promises ds r) → Story ds ended s.promises o → Goes ds ended s (Pipe p operation)
-  unfolding row
-  own-story ds ended operation s es None e wt hears w =
-      let d : Done = row (Pipe p operation) s in
-      let same : d ≡ on_pipe_at (λ ends. pipe_operation p ends operation) p s None = ap (on_pipe_at (λ ends. pipe_operation p ends operation) p s) e in
-      let place : slice_get d.slots.pipes p.0 ≡ None = ap (λ (c : Done). slice_get c.slots.pipes p.0) same ∙ e in
-      let heard : effect_heard p (Pipe p operation) s ≡ [] = ap (λ (c : Done). heard_in p c.caused) same in
-      let ends : effect_ends p (Pipe p operation) s ≡ [] = own_ends operation s ∙ came_none operation (pipe_at p s) (pipe_at p d.slots) (ap (λ (c : Option pipe.Slots). (as_pipe c).phase) (place ∙ sym e)) in
-      subst (Story (ds ++ effect_heard p (Pipe p operation) s) (ended ++ effect_ends p (Pipe p operation) s) d.slots.promises) (sym place)
-      (ap (λ (cs : List PromiseId). ds ++ cs) heard ∙ (append-nil ds ∙ w.0), ap (λ (cs : List (Option Plain)). ended ++ cs) ends ∙ (append-nil ended ∙ w.1))
-  own-story ds ended operation s es (Some x) e wt hears w =
-      let ends : Ends = ends_at x s in
-      let b : pipe.Acts = pipe_operation p ends operation (starting x s.promises) in
-      let d : Done = put_pipe p s b in
-      let same : row (Pipe p operation) s ≡ d = ap (on_pipe_at (λ ends. pipe_operation p ends operation) p s) e in
-      let there : slice_get d.slots.pipes p.0 ≡ Some b.slots = place_same s.pipes p.0 x b.slots e in
-      let after = move-told ds ended operation ends x s.promises w (told_acting s operation es x e wt) hears b (each_pipe_moves p ends operation x s.promises) in
-      let told : effect_ends p (Pipe p operation) s ≡ came_to_end operation x b.slots =
-      own_ends operation s
-      ∙ (ap (λ (y : pipe.Slots). came_to_end operation y (pipe_at p (row (Pipe p operation) s).slots)) (ap as_pipe e)
-      ∙ ap (λ (y : pipe.Slots). came_to_end operation x y) (ap (λ (c : Done). pipe_at p c.slots) same ∙ ap as_pipe there)) in
-      let keeps : Keeps s.promises d.slots.promises = subst (λ (c : Done). Keeps s.promises c.slots.promises) same (keeps-row (Pipe p operation) s) in
-      let k : Story (ds ++ heard_in p d.caused) (ended ++ came_to_end operation x b.slots) d.slots.promises (slice_get d.slots.pipes p.0) =
-      subst (Story (ds ++ heard_in p d.caused) (ended ++ came_to_end operation x b.slots) d.slots.promises) (sym there) (story-keeps (ds ++ heard_in p d.caused) (ended ++ came_to_end operation x b.slots) s.promises d.slots.promises (Some b.slots) keeps after) in
-      subst (λ (c : Done). Story (ds ++ heard_in p c.caused) (ended ++ effect_ends p (Pipe p operation) s) c.slots.promises (slice_get c.slots.pipes p.0)) (sym same)
-      (subst (λ (cs : List (Option Plain)). Story (ds ++ heard_in p d.caused) (ended ++ cs) d.slots.promises (slice_get d.slots.pipes p.0)) (sym told) k)
-
-  other_place : (q : PipeId) (operation : PipeOperation) (s : Slots) (o : Option pipe.Slots) → nat_eq p.0 q.0 ≡ false → slice_get (on_pipe_at (λ ends. pipe_operation q ends operation) q s o).slots.pipes p.0 ≡ slice_get s.pipes p.0
-  other_place q operation s None n = refl
-  other_place q operation s (Some x) n = slice_get-set_other s.pipes q.0 p.0 _ (λ f. unequal_numbers p.0 q.0 n (sym f))
-
-  other_there : (e : Effect) (s : Slots) → NotOf p e → slice_get (row e s).slots.pipes p.0 ≡ slice_get s.pipes p.0
-  unfolding row
-  other_there (Pipe q operation) s n = other_place q operation s (slice_get s.pipes q.0) n
-  other_there e s n = ap (λ (ps : List pipe.Slots). slice_get ps p.0) (row-pipes e s tt)
-
-  other_ends : (e : Effect) (s : Slots) → NotOf p e → effect_ends p e s ≡ []
-  other_ends (Pipe q operation) s n = ap (λ (b : Bool). (if b then operation_course operation (pipe_at q s) (pipe_at q (row (Pipe q operation) s).slots) else no_course).ended) n
-  other_ends _ s n = refl
-
-  -- an effect that isn't an operation of the pipe
-  none_heard : (e : Effect) (s : Slots) (Q : PromiseId → Type 0) (U : Result Plain Plain → Type 0) → NotOf p e → Fits p Q U e → effect_heard p e s ≡ []
-  none_heard (Pipe q operation) s Q U n f = none-heard p U (row (Pipe q operation) s).caused (caused-fit p (λ q. ⊥) U Q U (Pipe q operation) s (λ m d. true_false (nat_eq p.0 q.0) m n) f)
-  none_heard e s Q U n f = none-heard p U (row e s).caused (caused-fit p (λ q. ⊥) U Q U e s tt f)
-
-  other-story : (ds : List PromiseId) (ended : List (Option Plain)) (s : Slots) (e : Effect) (Q : PromiseId → Type 0) (U : Result Plain Plain → Type 0) → NotOf p e → Fits p Q U e → Story ds ended s.promises (slice_get s.pipes p.0) → Goes ds ended s e
-  other-story ds ended s e Q U n f w =
-      let z : Slots = (row e s).slots in
-      let heard = none_heard e s Q U n f in
-      let ends = other_ends e s n in
-      subst (λ (cs : List PromiseId). Story cs (ended ++ effect_ends p e s) z.promises (slice_get z.pipes p.0)) (sym (ap (λ (cs : List PromiseId). ds ++ cs) heard ∙ append-nil ds))
-      (subst (λ (cs : List (Option Plain)). Story ds cs z.promises (slice_get z.pipes p.0)) (sym (ap (λ (cs : List (Option Plain)). ended ++ cs) ends ∙ append-nil ended))
-      (subst (Story ds ended z.promises) (sym (other_there e s n)) (story-keeps ds ended s.promises z.promises (slice_get s.pipes p.0) (keeps-row e s) w)))
-
-  abbrev Told_so : List PromiseId → Slots → Effect → Type 0
-  Told_so ds s e = (o : Result Plain Plain) → e ≡ Pipe p (ActionSettled o) → IsOutcome s.promises ds o
+  row-heeds ds W s e f g = row-plainly (Heeds (is_reaction what p) ds) (heeds-plainly (is_reaction what p) ds) e s tt g
 
   -- what the first effect tells
-  told_so : (ds : List PromiseId) (s : Slots) (e : Effect) → Fits p (P ds) (V ds s) e → Told_so ds s e
-  told_so ds s e f o is = let k : Fits p (P ds) (V ds s) (Pipe p (ActionSettled o)) = subst (Fits p (P ds) (V ds s)) is f in k self
+  pub told_so : (ds : List PromiseId) (s : Slots) (e : Effect) → Fits what p (P ds) (V ds s) e → (o : Result Plain Plain) → e ≡ Pipe p (tells what o) → IsOutcome s.promises ds o
+  told_so ds s e f o is = told_now what p (P ds) (V ds s) o (subst (Fits what p (P ds) (V ds s)) is f)
 
-  pipe-story : (ds : List PromiseId) (ended : List (Option Plain)) (s : Slots) (q : PipeId) (operation : PipeOperation) (es : List Effect) (same : Bool) → nat_eq p.0 q.0 ≡ same → EachWaits s (Pipe q operation ∷ es) → Fits p (P ds) (V ds s) (Pipe q operation)
-      → Story ds ended s.promises (slice_get s.pipes p.0) → Goes ds ended s (Pipe q operation)
-  pipe-story ds ended s q operation es false n wt f w = other-story ds ended s (Pipe q operation) (P ds) (V ds s) n f w
-  pipe-story ds ended s q operation es true n wt f w =
-      subst (λ (r : PipeId). EachWaits s (Pipe r operation ∷ es) → Fits p (P ds) (V ds s) (Pipe r operation) → Goes ds ended s (Pipe r operation)) (ap (λ (n : ℕ). record { 0 = n }) (eq_numbers p.0 q.0 n))
-      (λ wt f. own-story ds ended operation s es (slice_get s.pipes p.0) refl (wt p) (λ r e. told_so ds s (Pipe p operation) f r (ap (λ (c : PipeOperation). Pipe p c) e)) w) wt f
-
-  row-story : (ds : List PromiseId) (ended : List (Option Plain)) (s : Slots) (e : Effect) (es : List Effect) → EachWaits s (e ∷ es) → Fits p (P ds) (V ds s) e → Story ds ended s.promises (slice_get s.pipes p.0) → Goes ds ended s e
-  row-story ds ended s (Pipe q operation) es wt f w = pipe-story ds ended s q operation es (nat_eq p.0 q.0) refl wt f w
-  row-story ds ended s e es wt f w = other-story ds ended s e (P ds) (V ds s) tt f w
-
-  any-own : (e : Effect) → OwnOf p (λ q. Unit {0}) (λ o. ⊥) e
+  any-own : (e : Effect) → OwnOf what p (λ q. Unit {0}) (λ o. ⊥) e
   any-own (Pipe q operation) = λ m d. tt
   any-own e = tt
 
   row-hearing : (h : List Moment) (s : Slots) (e : Effect) (es : List Effect) → Hearing h s (e ∷ es) → Hearing (h ++ moment e s ∷ []) (row e s).slots ((row e s).caused ++ es)
   row-hearing h s e es k =
       let z : Slots = (row e s).slots in
-      let ds : List PromiseId = promises_heard p h in
-      let fs : List PromiseId = ds ++ effect_heard p e s in
-      let ended : List (Option Plain) = ends_in h in
+      let ds : List PromiseId = promises_heard what p h in
+      let fs : List PromiseId = ds ++ effect_heard what p e s in
       let keeps : Keeps s.promises z.promises = keeps-row e s in
-      let grown : (o : Result Plain Plain) → V ds s o → V fs z o = λ o a. let b = outcome-keeps s.promises z.promises ds o keeps a in record { promise = b.promise; among = among-left b.promise ds (effect_heard p e s) b.among; outcome = b.outcome } in
-      let caused : Each (Fits p (λ q. Unit {0}) (λ o. ⊥)) (row e s).caused = caused-fit p (λ q. Unit {0}) (λ o. ⊥) (P ds) (V ds s) e s (any-own e) k.fits.0 in
-      let fits : Each (Fits p (P fs) (V fs z)) ((row e s).caused ++ es) =
-      each-append (Fits p (P fs) (V fs z)) (row e s).caused es
-      (each-weaker p (P fs) (P fs) (λ o. ⊥) (V fs z) (λ q a. a) (λ o a. absurd a) (row e s).caused (all-in p (λ o. ⊥) ds (row e s).caused caused))
-      (each-weaker p (P ds) (P fs) (V ds s) (V fs z) (λ q a. among-left q ds (effect_heard p e s) a) grown es k.fits.1) in
-      let heeds : Heeds (acts_on p) fs z.promises =
-      heeds-more (acts_on p) ds fs z.promises (λ q a. among-left q ds (effect_heard p e s) a) (row-heeds ds (V ds s) s e k.fits.0 k.heeds) in
-      let story = row-story ds ended s e es k.waits k.fits.0 k.story in
-      let names : promises_heard p (h ++ moment e s ∷ []) ≡ fs = one_heard h e s in
-      let last : ends_in (h ++ moment e s ∷ []) ≡ ended ++ effect_ends p e s = one_end h e s in
+      let grown : (o : Result Plain Plain) → V ds s o → V fs z o = λ o a. let b = outcome-keeps s.promises z.promises ds o keeps a in record { promise = b.promise; among = among-left b.promise ds (effect_heard what p e s) b.among; outcome = b.outcome } in
+      let caused : Each (Fits what p (λ q. Unit {0}) (λ o. ⊥)) (row e s).caused = caused-fit what p (λ q. Unit {0}) (λ o. ⊥) (P ds) (V ds s) e s (any-own e) k.fits.0 in
+      let fits : Each (Fits what p (P fs) (V fs z)) ((row e s).caused ++ es) =
+      each-append (Fits what p (P fs) (V fs z)) (row e s).caused es
+      (each-weaker what p (P fs) (P fs) (λ o. ⊥) (V fs z) (λ q a. a) (λ o a. absurd a) (row e s).caused (all-in what p (λ o. ⊥) ds (row e s).caused caused))
+      (each-weaker what p (P ds) (P fs) (V ds s) (V fs z) (λ q a. among-left q ds (effect_heard what p e s) a) grown es k.fits.1) in
+      let heeds : Heeds (is_reaction what p) fs z.promises =
+      heeds-more (is_reaction what p) ds fs z.promises (λ q a. among-left q ds (effect_heard what p e s) a) (row-heeds ds (V ds s) s e k.fits.0 k.heeds) in
+      let names : promises_heard what p (h ++ moment e s ∷ []) ≡ fs = one_heard h e s in
       record {
         truly = since-append Truly [] h (moment e s) k.truly (told_so ds s e k.fits.0);
-        waits = waits-stays.row s e es k.waits;
-        heeds = subst (λ (cs : List PromiseId). Heeds (acts_on p) cs z.promises) (sym names) heeds;
-        fits = subst (λ (cs : List PromiseId). Each (Fits p (P cs) (V cs z)) ((row e s).caused ++ es)) (sym names) fits;
-        story = subst (λ (cs : List PromiseId). Story cs (ends_in (h ++ moment e s ∷ [])) z.promises (slice_get z.pipes p.0)) (sym names)
-            (subst (λ (cs : List (Option Plain)). Story fs cs z.promises (slice_get z.pipes p.0)) (sym last) story);
+        heeds = subst (λ (cs : List PromiseId). Heeds (is_reaction what p) cs z.promises) (sym names) heeds;
+        fits = subst (λ (cs : List PromiseId). Each (Fits what p (P cs) (V cs z)) ((row e s).caused ++ es)) (sym names) fits;
       }
 
-  -- where no effect was performed
-
-  begins-hearing : (h : List Moment) (s z : Slots) (cs : List Effect) → Hearing h s [] → EachWaits z cs → Heeds (acts_on p) (promises_heard p h) z.promises → Each (Fits p (P (promises_heard p h)) (V (promises_heard p h) z)) cs
-      → Story (promises_heard p h) (ends_in h) z.promises (slice_get z.pipes p.0) → Hearing h z cs
-  begins-hearing h s z cs k waits heeds fits story = record { truly = k.truly; waits = waits; heeds = heeds; fits = fits; story = story }
-
-  pub call-keeps : (c : Call) (s : Slots) → Keeps s.promises (begin c s).done.slots.promises
-  call-keeps c s = begin-makes (λ z. Keeps s.promises z.promises) (record {
-    promise = λ z m. keeps-then s.promises z.promises (fresh z.promises) m (keeps-fresh z.promises);
-    locks = λ z ls m. m;
-    hosts = λ z hs m. m;
-    pipe = λ z source dest prevent signal promise m. m;
-    signal = λ z m. m;
-    transform = λ z kind half other change m. m;
-    tee = λ z source first second cancel m. m;
-    port = λ z side stream backpressure m. m;
-    bytes = λ z mark auto m. m;
-    byob_requests = λ z hs m. m;
-    readable = λ z owner mark size m. m;
-    writable = λ z owner mark size m. m;
-  }) c s (keeps-same s.promises)
-
-  call-heeds : (ds : List PromiseId) (c : Call) (s : Slots) → Heeds (acts_on p) ds s.promises → Heeds (acts_on p) ds (begin c s).done.slots.promises
-  call-heeds ds c s k = begin-makes (λ z. Heeds (acts_on p) ds z.promises) (record {
-    promise = λ z m. fresh-heeds (acts_on p) ds z.promises m;
+  call-heeds : (ds : List PromiseId) (c : Call) (s : Slots) → Heeds (is_reaction what p) ds s.promises → Heeds (is_reaction what p) ds (begin c s).done.slots.promises
+  call-heeds ds c s k = begin-makes (λ z. Heeds (is_reaction what p) ds z.promises) (record {
+    promise = λ z m. fresh-heeds (is_reaction what p) ds z.promises m;
     locks = λ z ls m. m;
     hosts = λ z hs m. m;
     pipe = λ z source dest prevent signal promise m. m;
@@ -440,137 +154,50 @@ module _ (p : PipeId) where
     writable = λ z owner mark size m. m;
   }) c s k
 
-  place-new : (ps : List pipe.Slots) (y : pipe.Slots) (n : ℕ) → slice_get ps n ≡ None → (slice_get (ps ++ y ∷ []) n ≡ None) ⊎ (slice_get (ps ++ y ∷ []) n ≡ Some y)
-  place-new [] y zero e = inr refl
-  place-new [] y (suc n) e = inl refl
-  place-new (x ∷ ps) y zero e = absurd (cc)
-  place-new (x ∷ ps) y (suc n) e = place-new ps y n e
-
-  new-told : (ds : List PromiseId) (ended : List (Option Plain)) (t : Table) (y : pipe.Slots) → y.phase ≡ Flowing → (ds ≡ []) × (ended ≡ []) → Told ds ended t y
-  new-told ds ended t y e w = record {
-    live = λ l. w.0;
-    late = λ l n. true_false (is_live y.phase) (ap is_live e) l;
-    before = λ l. w.1;
-    over = λ l n. true_false (is_over y.phase) l (ap is_over e);
-  }
-
-  grown-story : (ds : List PromiseId) (ended : List (Option Plain)) (t : Table) (ps : List pipe.Slots) (y : pipe.Slots) (o : Option pipe.Slots) → slice_get ps p.0 ≡ o → y.phase ≡ Flowing → Story ds ended t o → Story ds ended t (slice_get (ps ++ y ∷ []) p.0)
-  grown-story ds ended t ps y (Some x) e flows w = subst (Story ds ended t) (sym (place-grows ps (y ∷ []) p.0 x e)) w
-  grown-story ds ended t ps y None e flows w = by (place-new ps y p.0 e)
-    where
-      by : (slice_get (ps ++ y ∷ []) p.0 ≡ None) ⊎ (slice_get (ps ++ y ∷ []) p.0 ≡ Some y) → Story ds ended t (slice_get (ps ++ y ∷ []) p.0)
-      by (inl f) = subst (Story ds ended t) (sym f) w
-      by (inr f) = subst (Story ds ended t) (sym f) (new-told ds ended t y flows w)
-
-  call-story : (ds : List PromiseId) (ended : List (Option Plain)) (c : Call) (s : Slots) → Story ds ended s.promises (slice_get s.pipes p.0) → Story ds ended (begin c s).done.slots.promises (slice_get (begin c s).done.slots.pipes p.0)
-  call-story ds ended c s w = by (call-adds c s)
-    where
-      t : Table
-      t = (begin c s).done.slots.promises
-
-      k : Story ds ended t (slice_get s.pipes p.0)
-      k = story-keeps ds ended s.promises t (slice_get s.pipes p.0) (call-keeps c s) w
-
-      by : Adds s (begin c s) → Story ds ended t (slice_get (begin c s).done.slots.pipes p.0)
-      by (inl e) = subst (λ (ps : List pipe.Slots). Story ds ended t (slice_get ps p.0)) (sym e) k
-      by (inr new) = subst (λ (ps : List pipe.Slots). Story ds ended t (slice_get ps p.0)) (sym new.made) (grown-story ds ended t s.pipes new.slots (slice_get s.pipes p.0) refl new.flows k)
-
-  first_fits : (W : Result Plain Plain → Type 0) (js : List Job) (job : Job) → first_job js ≡ Some job → JobsFit (acts_on p) W js → JobFits (acts_on p) W job
+  first_fits : (W : Result Plain Plain → Type 0) (js : List Job) (job : Job) → first_job js ≡ Some job → JobsFit (is_reaction what p) W js → JobFits (is_reaction what p) W job
   first_fits W [] job e f = cc
-  first_fits W (j ∷ js) job e f = let is : j ≡ job = cc in subst (JobFits (acts_on p) W) is f.0
+  first_fits W (j ∷ js) job e f = let is : j ≡ job = cc in subst (JobFits (is_reaction what p) W) is f.0
 
   -- only promises change
-  promises-hearing : (h : List Moment) (s : Slots) (t : Table) (cs : List Effect) → Hearing h s [] → let z : Slots = with_promises t s in EachWaits z cs → Keeps s.promises t → Heeds (acts_on p) (promises_heard p h) t
-      → Each (Fits p (P (promises_heard p h)) (V (promises_heard p h) z)) cs → Hearing h z cs
-  promises-hearing h s t cs k waits keeps heeds fits =
-      begins-hearing h s (with_promises t s) cs k waits heeds fits (story-keeps (promises_heard p h) (ends_in h) s.promises t (slice_get s.pipes p.0) keeps k.story)
+  promises-hearing : (h : List Moment) (s : Slots) (t : Table) (cs : List Effect) → Hearing h s [] → let z : Slots = with_promises t s in Heeds (is_reaction what p) (promises_heard what p h) t
+      → Each (Fits what p (P (promises_heard what p h)) (V (promises_heard what p h) z)) cs → Hearing h z cs
+  promises-hearing h s t cs k heeds fits = record { truly = k.truly; heeds = heeds; fits = fits }
 
-  hearing-goes : GoesUntold ◌++◌ effect_moment Hearing
+  pub hearing-goes : GoesUntold ◌++◌ effect_moment Hearing
   hearing-goes = record {
     row = row-hearing;
-    call = λ h s c k.
-        begins-hearing h s (begin c s).done.slots (begin c s).done.caused k (waits-stays.call s c k.waits) (call-heeds (promises_heard p h) c s k.heeds)
-        (call-fits p (P (promises_heard p h)) (V (promises_heard p h) (begin c s).done.slots) c s) (call-story (promises_heard p h) (ends_in h) c s k.story);
+    call = λ h s c k. record {
+      truly = k.truly;
+      heeds = call-heeds (promises_heard what p h) c s k.heeds;
+      fits = call-fits what p (P (promises_heard what p h)) (V (promises_heard what p h) (begin c s).done.slots) c s;
+    };
     job = λ h s job e k.
-        let ds : List PromiseId = promises_heard p h in
+        let ds : List PromiseId = promises_heard what p h in
         let z : Slots = with_promises (after_next_job s.promises) s in
-        promises-hearing h s (after_next_job s.promises) (job_effects job) k (waits-stays.job s job e k.waits) (keeps-next s.promises) (next-heeds (acts_on p) ds s.promises k.heeds)
-        (each-weaker p (P ds) (P ds) (V ds s) (V ds z) (λ q a. a) (λ o a. outcome-keeps s.promises z.promises ds o (keeps-next s.promises) a) (job_effects job)
-        (job-effects-fit p (P ds) (V ds s) job (first_fits (V ds s) s.promises.jobs job e k.heeds.queued)));
-    answered = λ h s q k.
-        promises-hearing h s (watch q s.promises) [] k (waits-stays.answered s q k.waits) (keeps-watch q s.promises) (watch-heeds (acts_on p) (promises_heard p h) q s.promises k.heeds) tt;
-    older = λ h s k. record { truly = k.truly; waits = waits-stays.older s k.waits; heeds = k.heeds; fits = tt; story = k.story };
+        promises-hearing h s (after_next_job s.promises) (job_effects job) k (next-heeds (is_reaction what p) ds s.promises k.heeds)
+        (each-weaker what p (P ds) (P ds) (V ds s) (V ds z) (λ q a. a) (λ o a. outcome-keeps s.promises z.promises ds o (keeps-next s.promises) a) (job_effects job)
+        (job-effects-fit what p (P ds) (V ds s) job (first_fits (V ds s) s.promises.jobs job e k.heeds.queued)));
+    answered = λ h s q k. promises-hearing h s (watch q s.promises) [] k (watch-heeds (is_reaction what p) (promises_heard what p h) q s.promises k.heeds) tt;
+    older = λ h s k. record { truly = k.truly; heeds = k.heeds; fits = tt };
   }
 
-  heard-hearing : (h : List Moment) (s : Slots) → Hearing h s [] → Hearing h (after_event s) []
+  pub heard-hearing : (h : List Moment) (s : Slots) → Hearing h s [] → Hearing h (after_event s) []
   heard-hearing h s k =
       let z : Slots = after_event s in
       let keeps : Keeps s.promises z.promises = keeps-entries s.promises z.promises refl (λ m. m) in
-      record {
-        truly = k.truly;
-        waits = waits-heard s k.waits;
-        heeds = same-heeds (acts_on p) (promises_heard p h) s.promises z.promises refl refl keeps k.heeds;
-        fits = tt;
-        story = story-keeps (promises_heard p h) (ends_in h) s.promises z.promises (slice_get s.pipes p.0) keeps k.story;
-      }
+      record { truly = k.truly; heeds = same-heeds (is_reaction what p) (promises_heard what p h) s.promises z.promises refl refl keeps k.heeds; fits = tt }
 
-  unmarked : Heeds (acts_on p) [] empty.promises
+  unmarked : Heeds (is_reaction what p) [] empty.promises
   unmarked = record { registered = λ q m. absurd (cc); queued = tt }
 
-  empty-hearing : Hearing [] empty []
-  empty-hearing = record { truly = tt; waits = λ q. none-waits q; heeds = unmarked; fits = tt; story = (refl, refl) }
+  pub empty-hearing : Hearing [] empty []
+  empty-hearing = record { truly = tt; heeds = unmarked; fits = tt }
 
-  pub run-hearing : (entries : List Entry) → Hearing (run_moments entries empty) (run entries empty) []
+  run-hearing : (entries : List Entry) → Hearing (run_moments entries empty) (run entries empty) []
   run-hearing entries = run-holds [] ◌++◌ moments_history effect_moment Hearing hearing-goes (record { heard = heard-hearing }) entries empty empty-hearing
 
 pub each_outcome_heard_is_the_promises : EachOutcomeHeardIsThePromises
-each_outcome_heard_is_the_promises entries p = (run-hearing p entries).truly
+each_outcome_heard_is_the_promises entries p = (run-hearing ItsAction p entries).truly
 
--- how it ends
-
-some_none : (action : Action) → ◌≡◌ {A = Option Action} (Some action) None → ⊥
-some_none action e = absurd (cc)
-
-among_one : (q d : PromiseId) → Among q (d ∷ []) → q ≡ d
-among_one q d (inl e) = e
-among_one q d (inr k) = absurd k
-
-pub each_pipe_ends_as_its_action : EachPipeEndsAsItsAction
-each_pipe_ends_as_its_action entries p x action there over is =
-    let s : Slots = run entries empty in
-    let k = run-hearing p entries in
-    let ds : List PromiseId = promises_heard p (run_moments entries empty) in
-    let w : Told p ds (ends_in p (run_moments entries empty)) s.promises x = subst (Story p ds (ends_in p (run_moments entries empty)) s.promises) there k.story in
-    let acts : x.action ≢ None = λ n. some_none action (sym is ∙ n) in
-    let one = w.late (over_late x.phase over) acts in
-    let end = w.over over acts in
-    let ended : (run_course p entries empty).ended ≡ error_after x.error end.0 ∷ [] = over_ends p entries empty ∙ end.1.1 in
-    let same : end.1.0.promise ≡ one.0 = among_one end.1.0.promise one.0 (subst (Among end.1.0.promise) one.1 end.1.0.among) in
-    let course = has_course (subst (IsCourseAt (run_course p entries empty)) there (each_pipe_has_a_course entries p)).over in
-    let told = (each_promise_is_open_until_the_end entries p x there).after over in
-    record {
-      promise = one.0;
-      outcome = end.0;
-      one = one.1;
-      settled = subst (λ (d : PromiseId). outcome_at s.promises d ≡ Some (settled end.0)) same end.1.0.outcome;
-      shutdown = (course acts).0;
-      acted = (course acts).1;
-      ended = ended;
-      told = told.1.1 ∙ ap (λ (e : Option Plain). Some (outcome_of_end e)) (one_end_of told.0 (error_after x.error end.0) (sym told.1.0 ∙ ended));
-    }
-  where
-    over_late : (phase : Phase) → is_over phase ≡ true → is_live phase ≡ false
-    over_late phase e = grind (arith, e)
-
-    one_end_of : (a b : Option Plain) → ◌≡◌ {A = List (Option Plain)} (a ∷ []) (b ∷ []) → a ≡ b
-    one_end_of a b e = cc
-
-    is_over_phase : (phase : Phase) → is_over phase ≡ true → phase ≡ Over
-    is_over_phase phase e = grind (arith, e)
-
-    has_course : (x.phase ≡ Over → HasEnded (run_course p entries empty) x) → x.action ≢ None → ((run_course p entries empty).shutdowns ≡ shutdown x.action x.error ∷ []) × ((run_course p entries empty).acted ≡ x.action ∷ [])
-    has_course f n = by (f (is_over_phase x.phase over))
-      where
-        by : HasEnded (run_course p entries empty) x → ((run_course p entries empty).shutdowns ≡ shutdown x.action x.error ∷ []) × ((run_course p entries empty).acted ≡ x.action ∷ [])
-        by (WithoutAction e h) = absurd (n e)
-        by (AfterAction o e h) = (ap (λ (c : Course). c.shutdowns) h, ap (λ (c : Course). c.acted) h)
+pub each_outcome_of_a_part_is_its_promises : EachOutcomeOfAPartIsItsPromises
+each_outcome_of_a_part_is_its_promises entries p = (run-hearing APart p entries).truly

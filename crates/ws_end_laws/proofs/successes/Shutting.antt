@@ -1,5 +1,5 @@
 -- Where a pipe shut down, and how its promise is answered, over every run (`each_pipe_ends_as_it_shut_down`).
-use Rattle.std.proofs.Common.{◌≡◌, ◌⊎◌, inl, inr, ℕ, zero, suc, ◌≤◌, Bool, true, false, nat_eq, List, [], ◌∷◌, ◌++◌, Option, Some, None, Result, Ok, Err, slice_get, refl, sym, ap, subst, ◌∙◌, arith, append_assoc}
+use Rattle.std.proofs.Common.{◌≡◌, ◌⊎◌, inl, inr, ℕ, Bool, true, false, nat_eq, List, [], ◌∷◌, ◌++◌, Option, Some, None, Result, Ok, Err, slice_get, refl, sym, ap, subst, ◌∙◌, arith, append_assoc}
 use Rattle.ws_value.specs.declared.{ids.PipeId.{PipeId}}
 use Rattle.ws_value.specs.declared.value.{Plain.{Plain}}
 use Rattle.ws_steps.specs.declared.calls.{Call.{Call}}
@@ -12,13 +12,9 @@ use Rattle.ws_steps.specs.Pipes as pipe
 use Rattle.ws_steps.specs.Run.{Entry, run}
 use Rattle.ws_steps.specs.Slots.{Slots, Done, empty, as_pipe, pipe_at, ends_at, put_pipe, on_pipe_at}
 use Rattle.ws_steps.specs.Turns.{Moment, row}
-use Rattle.ws_steps.proofs.PromiseLaws.{slice_get-set_other}
-use Rattle.ws_laws.proofs.Apart.{row-pipes}
-use Rattle.ws_laws.proofs.Tables.{eq_numbers, unequal_numbers}
+use Rattle.ws_laws.proofs.Tables.{eq_numbers}
 use Rattle.ws_laws.proofs.Walker.{GoesUntold, run-holds}
 use Rattle.ws_promise_laws.proofs.Acting.{EachWaits, Waits, waits-stays, waits-heard, none-waits}
-use Rattle.ws_promise_laws.proofs.PipeActs.{acts_now}
-use Rattle.ws_promise_laws.proofs.Tokens.{one_if}
 use Rattle.ws_pipe_laws.specs.pipes.PipeHistory.{shutdown, shutdown_by, has_closed, is_live, is_over, error_after, run_course, effect_moment, run_moments, Course}
 use Rattle.ws_pipe_laws.specs.pipes.PipeMoves.{starting, Move, MoveRests, MoveWaits, MoveActs, MoveEnds, MoveFinishes, IsNamed}
 use Rattle.ws_pipe_laws.specs.pipes.PipeReads.{HasEnded, WithoutAction, AfterAction, IsCourseAt}
@@ -35,10 +31,9 @@ use Rattle.ws_steps.specs.Pipes.{is_flowing}
 use Rattle.ws_steps.specs.declared.pipes.Prevent.{Prevent}
 use Rattle.ws_end_laws.proofs.ends.PromiseEnds.{ended-fulfilled}
 use Rattle.ws_end_laws.proofs.successes.Acting.{acted-for}
-use Rattle.ws_end_laws.proofs.successes.Hearing.{each_pipe_ends_as_its_action}
-
-true_false : {A : Type 0} (b : Bool) → b ≡ true → b ≡ false → A
-true_false b e f = cc
+use Rattle.ws_end_laws.proofs.successes.Ending.{each_pipe_ends_as_its_action}
+use Rattle.ws_laws.proofs.Truth.{false_true}
+use Rattle.ws_end_laws.proofs.hosts.Places.{other_there, place-new, told_acting}
 
 -- a shutdown without an error comes of a source that has closed
 closed_named : (prevent : Prevent) (ends : Ends) (operation : PipeOperation) (a : Option Action) (e : Option Plain) → shutdown_by prevent ends operation ≡ Some (shutdown a e) → e ≡ None → has_closed ends.source_state ≡ true
@@ -90,8 +85,8 @@ module _ (p : PipeId) where
     named_now : (y : pipe.Slots) (phase : Phase) → x.phase ≡ phase → IsNamed ends operation x y → ShutDown p y (h ++ m ∷ [])
     named_now y Flowing f n = now y f (n.starts f)
     named_now y Waiting f n = let same = n.keeps f in later h m x y same.0 same.1 (was (ap is_flowing f))
-    named_now y Acting f n = true_false (is_live x.phase) n.live (ap is_live f)
-    named_now y Over f n = true_false (is_live x.phase) n.live (ap is_live f)
+    named_now y Acting f n = false_true (is_live x.phase) n.live (ap is_live f)
+    named_now y Over f n = false_true (is_live x.phase) n.live (ap is_live f)
 
     as_alike : (y z : pipe.Slots) → z.action ≡ y.action → z.error ≡ y.error → ShutDown p y (h ++ m ∷ []) → ShutDown p z (h ++ m ∷ [])
     as_alike y z a e k = record {
@@ -113,22 +108,6 @@ module _ (p : PipeId) where
     move-shut b acting (MoveFinishes r f e o) =
         λ l. later h m x b.slots (ap (λ (y : pipe.Slots). y.action) e) (ap (λ (y : pipe.Slots). y.error) e) (was (ap is_flowing (acting r f)))
 
-  self : nat_eq p.0 p.0 ≡ true
-  self = grind arith
-
-  acting_phase : (x : pipe.Slots) (phase : Phase) → x.phase ≡ phase → 1 ≤ one_if (acts_now (Some x)) → x.phase ≡ Acting
-  acting_phase x Acting e n = e
-  acting_phase x Flowing e n = let m : 1 ≤ 0 = rw e at n in absurd (omega arith)
-  acting_phase x Waiting e n = let m : 1 ≤ 0 = rw e at n in absurd (omega arith)
-  acting_phase x Over e n = let m : 1 ≤ 0 = rw e at n in absurd (omega arith)
-
-  told_acting : (s : Slots) (operation : PipeOperation) (es : List Effect) (x : pipe.Slots) → slice_get s.pipes p.0 ≡ Some x → Waits p s (Pipe p operation ∷ es) → (o : Result Plain Plain) → operation ≡ ActionSettled o → x.phase ≡ Acting
-  told_acting s operation es x there w o e =
-      let v : Waits p s (Pipe p (ActionSettled o) ∷ es) = subst (λ (c : PipeOperation). Waits p s (Pipe p c ∷ es)) e w in
-      let one : one_if (nat_eq p.0 p.0) ≡ 1 = ap one_if self in
-      let n : 1 ≤ one_if (acts_now (slice_get s.pipes p.0)) = omega (arith, v, one) in
-      acting_phase x x.phase refl (rw there at n)
-
   abbrev Goes : List Moment → Slots → Effect → Type 0
   Goes h s e = Story (h ++ moment e s ∷ []) (slice_get (row e s).slots.pipes p.0)
 
@@ -144,19 +123,10 @@ module _ (p : PipeId) where
       let same : row (Pipe p operation) s ≡ d = ap (on_pipe_at (λ ends. pipe_operation p ends operation) p s) e in
       let there : slice_get d.slots.pipes p.0 ≡ Some b.slots = place_same s.pipes p.0 x b.slots e in
       let place : slice_get (row (Pipe p operation) s).slots.pipes p.0 ≡ Some b.slots = ap (λ (c : Done). slice_get c.slots.pipes p.0) same ∙ there in
-      subst (Story (h ++ moment (Pipe p operation) s ∷ [])) (sym place) (move-shut h operation s x e w b (told_acting s operation es x e wt) (each_pipe_moves p (ends_at x s) operation x s.promises))
-
-  other_place : (q : PipeId) (operation : PipeOperation) (s : Slots) (o : Option pipe.Slots) → nat_eq p.0 q.0 ≡ false → slice_get (on_pipe_at (λ ends. pipe_operation q ends operation) q s o).slots.pipes p.0 ≡ slice_get s.pipes p.0
-  other_place q operation s None n = refl
-  other_place q operation s (Some x) n = slice_get-set_other s.pipes q.0 p.0 _ (λ f. unequal_numbers p.0 q.0 n (sym f))
-
-  other_there : (e : Effect) (s : Slots) → NotOf p e → slice_get (row e s).slots.pipes p.0 ≡ slice_get s.pipes p.0
-  unfolding row
-  other_there (Pipe q operation) s n = other_place q operation s (slice_get s.pipes q.0) n
-  other_there e s n = ap (λ (ps : List pipe.Slots). slice_get ps p.0) (row-pipes e s tt)
+      subst (Story (h ++ moment (Pipe p operation) s ∷ [])) (sym place) (move-shut h operation s x e w b (told_acting p s operation es x e wt) (each_pipe_moves p (ends_at x s) operation x s.promises))
 
   other-story : (h : List Moment) (s : Slots) (e : Effect) → NotOf p e → Story h (slice_get s.pipes p.0) → Goes h s e
-  other-story h s e n w = subst (Story (h ++ moment e s ∷ [])) (sym (other_there e s n)) (later-story h (moment e s) (slice_get s.pipes p.0) w)
+  other-story h s e n w = subst (Story (h ++ moment e s ∷ [])) (sym (other_there p e s n)) (later-story h (moment e s) (slice_get s.pipes p.0) w)
 
   pipe-story : (h : List Moment) (s : Slots) (q : PipeId) (operation : PipeOperation) (es : List Effect) (same : Bool) → nat_eq p.0 q.0 ≡ same → EachWaits s (Pipe q operation ∷ es) → Story h (slice_get s.pipes p.0) → Goes h s (Pipe q operation)
   pipe-story h s q operation es false n wt w = other-story h s (Pipe q operation) n w
@@ -170,14 +140,8 @@ module _ (p : PipeId) where
   abbrev Is : List Moment → Slots → List Effect → Type 0
   Is h s es = EachWaits s es × Story h (slice_get s.pipes p.0)
 
-  place-new : (ps : List pipe.Slots) (y : pipe.Slots) (n : ℕ) → slice_get ps n ≡ None → (slice_get (ps ++ y ∷ []) n ≡ None) ⊎ (slice_get (ps ++ y ∷ []) n ≡ Some y)
-  place-new [] y zero e = inr refl
-  place-new [] y (suc n) e = inl refl
-  place-new (x ∷ ps) y zero e = absurd (cc)
-  place-new (x ∷ ps) y (suc n) e = place-new ps y n e
-
   new-shut : (h : List Moment) (y : pipe.Slots) → y.phase ≡ Flowing → Story h (Some y)
-  new-shut h y e = λ f. true_false (is_flowing y.phase) (ap is_flowing e) f
+  new-shut h y e = λ f. false_true (is_flowing y.phase) (ap is_flowing e) f
 
   grown-story : (h : List Moment) (ps : List pipe.Slots) (y : pipe.Slots) (o : Option pipe.Slots) → slice_get ps p.0 ≡ o → y.phase ≡ Flowing → Story h o → Story h (slice_get (ps ++ y ∷ []) p.0)
   grown-story h ps y (Some x) e flows w = subst (Story h) (sym (place-grows ps (y ∷ []) p.0 x e)) w

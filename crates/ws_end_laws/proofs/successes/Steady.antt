@@ -1,59 +1,47 @@
 -- A pipe and its destination, whatever it isn't to do: while the pipe is live, the destination is open and nothing closes it; and from the step on in
 -- which it isn't live any more, each of its writes has settled, or the destination has failed.
-use Rattle.std.proofs.Common.{◌≡◌, ℕ, ◌-◌, ◌≤◌, Bool, true, false, not, ◌&&◌, ◌||◌, is_some, inl, inr, ◌⊎◌, nat_eq, List, [], ◌∷◌, ◌++◌, Option, Some, None, Result, Ok, Err, slice_get, refl, sym, ap, subst, ◌∙◌, arith, append_assoc, append-nil}
+use Rattle.std.proofs.Common.{◌≡◌, ℕ, ◌-◌, Bool, true, false, not, ◌&&◌, ◌||◌, is_some, inl, inr, ◌⊎◌, nat_eq, List, [], ◌∷◌, ◌++◌, Option, Some, None, Result, Ok, Err, slice_get, refl, sym, ap, subst, ◌∙◌, arith, append_assoc, append-nil}
 use Rattle.ws_value.specs.declared.{ids.PipeId.{PipeId}, ids.PromiseId.{PromiseId}, ids.StreamId.{StreamId}}
 use Rattle.ws_value.specs.declared.value.{Plain.{Plain}, Plain.TheVariants.{Undefined}, Value.{Value}}
 use Rattle.ws_steps.specs.declared.calls.{Call.{Call}, Reply.{Reply}, Reply.TheVariants.{Promise}}
 use Rattle.ws_steps.specs.declared.effects.Effect.{Effect}
 use Rattle.ws_steps.specs.declared.effects.Effect.TheVariants.{Writable, Pipe}
-use Rattle.ws_steps.specs.declared.pipes.{Action.{Action}, Action.TheVariants.{AbortDest, CancelSource, CloseDest, BySignal}, Ends.{Ends}, Phase.{Phase}, Phase.TheVariants.{Flowing, Waiting, Acting, Over}, PipeOperation.{PipeOperation}}
+use Rattle.ws_steps.specs.declared.pipes.{Action.TheVariants.{BySignal}, Ends.{Ends}, Phase.{Phase}, Phase.TheVariants.{Flowing, Waiting, Acting, Over}, PipeOperation.{PipeOperation}}
 use Rattle.ws_steps.specs.declared.pipes.PipeOperation.TheVariants.{Look, LookReady, KeepChunk, ReadEnded, WriteChunk, GoOn, WriteEnded, Abort as AbortPipe, ActionSettled, PartSettled, NoParts}
 use Rattle.ws_steps.specs.declared.promises.Job.{Job}
-use Rattle.ws_steps.specs.declared.writable.WritableOperation.TheVariants.{Close, ClosePropagating}
 use Rattle.ws_steps.specs.declared.writable.WritableState.{WritableState}
 use Rattle.ws_steps.specs.declared.writable.WritableState.TheVariants as states
 use Rattle.ws_steps.specs.Calls.{begin, named}
 use Rattle.ws_steps.specs.Effects.{Out}
-use Rattle.ws_steps.specs.Histories.{is_same}
 use Rattle.ws_steps.specs.Jobs.{job_effects, job_begun, begin_job}
 use Rattle.ws_steps.specs.Operations.{pipe_operation}
 use Rattle.ws_steps.specs.Pipes as pipe
 use Rattle.ws_steps.specs.Pipes.{Acts, look, look_ready, go_on_in, go_on, keep_chunk, read_ended, write_in, write_held, write_chunk, write_ended, action_settled, settle_whole, part_settled, no_parts, abort}
 use Rattle.ws_steps.specs.Promises.{Table, next_job, after_next_job, watch}
 use Rattle.ws_steps.specs.Run.{Entry, Called, Worked, Heard, run, step, older, after_event}
-use Rattle.ws_steps.specs.Slots.{Slots, Done, empty, with_promises, as_writable, as_pipe, is_writable_stream, ends_at, pipe_at, on_pipe_at, put_pipe, writable_at, has_writable}
+use Rattle.ws_steps.specs.Slots.{Slots, Done, empty, with_promises, as_writable, is_writable_stream, ends_at, on_pipe_at, put_pipe, writable_at, has_writable}
 use Rattle.ws_steps.specs.Turns.{row, performed}
 use Rattle.ws_steps.specs.Writable as writable
 use Rattle.ws_steps.specs.Writable.{is_closing, is_closed, is_writable}
-use Rattle.ws_steps.proofs.PromiseLaws.{slice_get-set_other}
-use Rattle.ws_laws.proofs.Apart.{row-pipes}
 use Rattle.ws_laws.proofs.Lists.{Each, each-append}
-use Rattle.ws_laws.proofs.Tables.{eq_numbers, unequal_numbers, is_same-refl}
-use Rattle.ws_laws.proofs.Truth.{and_left, and_right}
+use Rattle.ws_laws.proofs.Tables.{eq_numbers}
+use Rattle.ws_laws.proofs.Truth.{false_true}
 use Rattle.ws_laws.proofs.Walker.{performed-goes, untold}
-use Rattle.ws_promise_laws.proofs.Acting.{Waits}
-use Rattle.ws_promise_laws.proofs.PipeActs.{acts_now}
-use Rattle.ws_promise_laws.proofs.Tokens.{one_if}
 use Rattle.ws_promise_laws.proofs.Runs.{Straight, straight-stays, straight-heard}
-use Rattle.ws_pipe_laws.specs.pipes.PipeHistory.{is_live, is_over, error_after}
-use Rattle.ws_pipe_laws.specs.pipes.PipeMoves.{starting, writes_first, HasWritten, Move, MoveRests, MoveWaits, MoveActs, MoveEnds, MoveFinishes, acted, dest_aborted, signalled, shut_in}
+use Rattle.ws_pipe_laws.specs.pipes.PipeHistory.{is_live}
+use Rattle.ws_pipe_laws.specs.pipes.PipeMoves.{starting, writes_first, HasWritten, Move, MoveRests, MoveWaits, MoveActs, MoveEnds, MoveFinishes}
 use Rattle.ws_pipe_laws.proofs.pipes.Courses.{place_same}
 use Rattle.ws_pipe_laws.proofs.pipes.Kept.{each_pipe_keeps_its_ends}
 use Rattle.ws_pipe_laws.proofs.pipes.Moves.{each_pipe_moves}
 use Rattle.ws_pipe_laws.proofs.writes.Paying.{finalize-even, shutdown-even}
-use Rattle.ws_pipe_laws.specs.locks.Locks.{Writing, holds}
-use Rattle.ws_pipe_laws.specs.locks.LockLaws.{spares, all_spare}
-use Rattle.ws_pipe_laws.proofs.locks.Holding.{pipes-two}
-use Rattle.ws_pipe_laws.proofs.locks.Owning.{each_pipe_owns_its_ends}
 use Rattle.ws_pipe_laws.proofs.locks.Runs.{Locked, locked-stays, run-locked}
-use Rattle.ws_end_laws.proofs.hosts.Acts.{NotOf, are_idle-close, end-effects-close, caused-close, job-closes}
+use Rattle.ws_end_laws.proofs.hosts.Acts.{NotOf, are_idle-close, job-closes}
 use Rattle.ws_end_laws.proofs.hosts.Dests.{NoClose, row-open, row-there}
 use Rattle.ws_end_laws.proofs.hosts.Doomed.{Doomed, row-doomed}
-use Rattle.ws_end_laws.proofs.hosts.PipedRuns.{SamePlace, call-there, call-same, run-last}
+use Rattle.ws_end_laws.proofs.hosts.PipedRuns.{SamePlace, call-there, call-same, calls-close, run-last}
 use Rattle.ws_end_laws.proofs.hosts.Staying.{Open}
-
-true_false : {A : Type 0} (b : Bool) → b ≡ true → b ≡ false → A
-true_false b e f = cc
+use Rattle.ws_end_laws.proofs.hosts.Places.{other_there, told_acting}
+use Rattle.ws_end_laws.proofs.hosts.PipedRows.{other-close}
 
 -- a pipe that isn't live makes no write any more
 
@@ -68,8 +56,8 @@ module _ (me : PipeId) (ends : Ends) where
       by : (phase : Phase) → a.slots.phase ≡ phase → None_left (look me ends a)
       by Acting e = rw e u
       by Over e = rw e u
-      by Flowing e = true_false (is_live a.slots.phase) (ap is_live e) l
-      by Waiting e = true_false (is_live a.slots.phase) (ap is_live e) l
+      by Flowing e = false_true (is_live a.slots.phase) (ap is_live e) l
+      by Waiting e = false_true (is_live a.slots.phase) (ap is_live e) l
 
   go_on-none : (a : Acts) (phase : Phase) → None_left a → is_live phase ≡ false → None_left (go_on_in me ends a phase)
   go_on-none a Acting u l = u
@@ -118,7 +106,7 @@ writes-or w o = by w.state refl
     by states.Writable e = inl (rw (e, o.closing) refl)
     by states.Erroring e = inr (record { failed = rw e refl; flight = idle w.close_request w.close_in_flight o.closing })
     by states.Errored e = inr (record { failed = rw e refl; flight = idle w.close_request w.close_in_flight o.closing })
-    by states.Closed e = true_false (is_closed w.state) (ap is_closed e) o.closed
+    by states.Closed e = false_true (is_closed w.state) (ap is_closed e) o.closed
 
 module _ (p : PipeId) (i : StreamId) where
   pub record Steady (s : Slots) (es : List Effect) : Type 0 where
@@ -131,79 +119,7 @@ module _ (p : PipeId) (i : StreamId) where
     pub live : is_live x.phase ≡ true → Open (writable_at i s) × Each (NoClose i) es
     pub late : is_live x.phase ≡ false → (x.unsettled ≡ 0) ⊎ Doomed (writable_at i s)
 
-  -- two pipes that aren't over have no end in common
-
-  live_over : (phase : Phase) → is_live phase ≡ true → is_over phase ≡ false
-  live_over Flowing e = refl
-  live_over Waiting e = refl
-  live_over Acting e = cc
-  live_over Over e = cc
-
-  holds_one : (x : pipe.Slots) → is_live x.phase ≡ true → is_same i x.dest ≡ true → holds Writing i x ≡ true
-  holds_one x e f = let o = live_over x.phase e in rw (o, f) refl
-
-  apart : (q : PipeId) (x y : pipe.Slots) (s : Slots) (es : List Effect) → Locked s es → nat_eq p.0 q.0 ≡ false → slice_get s.pipes p.0 ≡ Some x → slice_get s.pipes q.0 ≡ Some y → is_live x.phase ≡ true → is_live y.phase ≡ true → x.dest ≡ i
-      → is_same i y.dest ≡ false
-  apart q x y s es l n e f live other dest = by (is_same i y.dest) refl
-    where
-      by : (b : Bool) → is_same i y.dest ≡ b → b ≡ false
-      by false g = refl
-      by true g =
-          let one = holds_one x live (subst (λ (j : StreamId). is_same i j ≡ true) (sym dest) (is_same-refl i)) in
-          let two = holds_one y other g in
-          let both = pipes-two Writing i p.0 q.0 s.pipes x y (unequal_numbers p.0 q.0 n) e f in
-          let few = (l.each Writing i).few in
-          absurd (grind arith)
-
-  -- what another pipe causes closes another stream
-
-  other_dest : (operation : PipeOperation) (phase : Phase) (a : Option Action) (e : Option Plain) (x : pipe.Slots) → (shut_in operation phase a e x).dest ≡ x.dest
-  other_dest operation phase a e x = grind arith
-
-  acted-close : (q : PipeId) (ends : Ends) (y : pipe.Slots) (t : Table) (action : Action) → is_same i y.dest ≡ false → Each (NoClose i) (acted q ends y t action).out.effects
-  acted-close q ends y t (AbortDest r) n = by ends.dest_abort
-    where
-      by : (d : Option PromiseId) → Each (NoClose i) (dest_aborted q r y t d).out.effects
-      by (Some d) = (tt, tt)
-      by None = (tt, (tt, tt))
-  acted-close q ends y t (CancelSource r) n = (tt, (tt, tt))
-  acted-close q ends y t CloseDest n = (n, (tt, tt))
-  acted-close q ends y t (BySignal r) n = by y.prevent.abort y.prevent.cancel
-    where
-      by : (a c : Bool) → Each (NoClose i) (signalled q r y t a c).out.effects
-      by false false = (tt, (tt, (tt, (tt, (tt, tt)))))
-      by false true = (tt, (tt, (tt, tt)))
-      by true false = (tt, (tt, (tt, tt)))
-      by true true = (tt, (tt, tt))
-
-  move-close : (q : PipeId) (ends : Ends) (operation : PipeOperation) (x : pipe.Slots) (t : Table) (b : pipe.Acts) → (is_live x.phase ≡ true → is_same i x.dest ≡ false) → Move q ends operation x t b → Each (NoClose i) b.out.effects
-  move-close q ends operation x t b n (MoveRests f a e idle) = are_idle-close i b.out.effects idle
-  move-close q ends operation x t b n (MoveWaits f e m w o) = subst (λ (z : Out). Each (NoClose i) z.effects) (sym o) tt
-  move-close q ends operation x t b n (MoveActs action y e m w o same) =
-      subst (λ (z : pipe.Acts). Each (NoClose i) z.out.effects) (sym o)
-      (acted-close q ends y t action (ap (is_same i) (ap (λ (z : pipe.Slots). z.dest) e ∙ other_dest operation Acting (Some action) y.error x) ∙ n m.live))
-  move-close q ends operation x t b n (MoveEnds e m w o) = subst (λ (z : Out). Each (NoClose i) z.effects) (sym o) (end-effects-close i q x b.slots.error)
-  move-close q ends operation x t b n (MoveFinishes r f e o) = subst (λ (z : Out). Each (NoClose i) z.effects) (sym o) (end-effects-close i q x (error_after x.error r))
-
-  pipe-close : (q : PipeId) (operation : PipeOperation) (s : Slots) (o : Option pipe.Slots) → ((y : pipe.Slots) → o ≡ Some y → is_live y.phase ≡ true → is_same i y.dest ≡ false) → Each (NoClose i) (on_pipe_at (λ ends. pipe_operation q ends operation) q s o).caused
-  pipe-close q operation s None n = tt
-  pipe-close q operation s (Some y) n = move-close q (ends_at y s) operation y s.promises _ (n y refl) (each_pipe_moves q (ends_at y s) operation y s.promises)
-
-  other-close : (x : pipe.Slots) (s : Slots) (e : Effect) (es : List Effect) → NotOf p e → Locked s (e ∷ es) → slice_get s.pipes p.0 ≡ Some x → is_live x.phase ≡ true → x.dest ≡ i → Each (NoClose i) (row e s).caused
-  unfolding row
-  other-close x s (Pipe q operation) es n l e live dest = pipe-close q operation s (slice_get s.pipes q.0) (λ y f other. apart q x y s (Pipe q operation ∷ es) l n e f live other dest)
-  other-close x s e es n l f live dest = caused-close i e s tt
-
   -- effects that aren't operations of the pipe
-
-  other_place : (q : PipeId) (operation : PipeOperation) (s : Slots) (o : Option pipe.Slots) → nat_eq p.0 q.0 ≡ false → slice_get (on_pipe_at (λ ends. pipe_operation q ends operation) q s o).slots.pipes p.0 ≡ slice_get s.pipes p.0
-  other_place q operation s None n = refl
-  other_place q operation s (Some x) n = slice_get-set_other s.pipes q.0 p.0 _ (λ f. unequal_numbers p.0 q.0 n (sym f))
-
-  pub other_there : (e : Effect) (s : Slots) → NotOf p e → slice_get (row e s).slots.pipes p.0 ≡ slice_get s.pipes p.0
-  unfolding row
-  other_there (Pipe q operation) s n = other_place q operation s (slice_get s.pipes q.0) n
-  other_there e s n = ap (λ (ps : List pipe.Slots). slice_get ps p.0) (row-pipes e s tt)
 
   doomed-next : (x : pipe.Slots) (s : Slots) (e : Effect) (es : List Effect) → Straight s (e ∷ es) → (x.unsettled ≡ 0) ⊎ Doomed (writable_at i s) → (x.unsettled ≡ 0) ⊎ Doomed (writable_at i (row e s).slots)
   doomed-next x s e es k (inl u) = inl u
@@ -212,32 +128,16 @@ module _ (p : PipeId) (i : StreamId) where
   other-row : (s : Slots) (e : Effect) (es : List Effect) → NotOf p e → Steady s (e ∷ es) → Steady (row e s).slots ((row e s).caused ++ es)
   other-row s e es n k = record {
     x = k.x;
-    there = other_there e s n ∙ k.there;
+    there = other_there p e s n ∙ k.there;
     dest = k.dest;
     straight = straight-stays.row s e es k.straight;
     locked = locked-stays.row s e es k.locked;
     stands = row-there i s e k.stands;
-    live = λ f. let o = k.live f in (row-open i s e es k.straight o.1.0 o.0, each-append (NoClose i) (row e s).caused es (other-close k.x s e es n k.locked k.there f k.dest) o.1.1);
+    live = λ f. let o = k.live f in (row-open i s e es k.straight o.1.0 o.0, each-append (NoClose i) (row e s).caused es (other-close p i k.x s e es n k.locked k.there f k.dest) o.1.1);
     late = λ f. doomed-next k.x s e es k.straight (k.late f);
   }
 
   -- operations of the pipe
-
-  self : nat_eq p.0 p.0 ≡ true
-  self = grind arith
-
-  acting_phase : (x : pipe.Slots) (phase : Phase) → x.phase ≡ phase → 1 ≤ one_if (acts_now (Some x)) → x.phase ≡ Acting
-  acting_phase x Acting e n = e
-  acting_phase x Flowing e n = let m : 1 ≤ 0 = rw e at n in absurd (omega arith)
-  acting_phase x Waiting e n = let m : 1 ≤ 0 = rw e at n in absurd (omega arith)
-  acting_phase x Over e n = let m : 1 ≤ 0 = rw e at n in absurd (omega arith)
-
-  pub told_acting : (s : Slots) (operation : PipeOperation) (es : List Effect) (x : pipe.Slots) → slice_get s.pipes p.0 ≡ Some x → Waits p s (Pipe p operation ∷ es) → (o : Result Plain Plain) → operation ≡ ActionSettled o → x.phase ≡ Acting
-  told_acting s operation es x there w o e =
-      let v : Waits p s (Pipe p (ActionSettled o) ∷ es) = subst (λ (c : PipeOperation). Waits p s (Pipe p c ∷ es)) e w in
-      let one : one_if (nat_eq p.0 p.0) ≡ 1 = ap one_if self in
-      let n : 1 ≤ one_if (acts_now (slice_get s.pipes p.0)) = omega (arith, v, one) in
-      acting_phase x x.phase refl (rw there at n)
 
   -- what it leaves of the pipe
   record Moved (x : pipe.Slots) (s : Slots) (b : pipe.Acts) : Type 0 where
@@ -264,21 +164,21 @@ module _ (p : PipeId) (i : StreamId) where
     moved b same (MoveRests f a e idle) = record { live = λ l. (sym (ap is_live f) ∙ l, are_idle-close i b.out.effects idle); late = λ l. let n = sym (ap is_live f) ∙ l in settled b same n (was n) }
     moved b same (MoveWaits f e m w o) =
         let phase : b.slots.phase ≡ Waiting = ap (λ (y : pipe.Slots). y.phase) e in
-        record { live = λ l. (ap is_live f, subst (λ (z : Out). Each (NoClose i) z.effects) (sym o) tt); late = λ l. true_false (is_live b.slots.phase) (ap is_live phase) l }
+        record { live = λ l. (ap is_live f, subst (λ (z : Out). Each (NoClose i) z.effects) (sym o) tt); late = λ l. false_true (is_live b.slots.phase) (ap is_live phase) l }
     moved b same (MoveActs action y e m h o alike) =
         let phase : b.slots.phase ≡ Acting = alike.phase ∙ ap (λ (y : pipe.Slots). y.phase) e in
-        record { live = λ l. true_false (is_live b.slots.phase) l (ap is_live phase); late = λ l. unsettled_as (written y h (first (is_open m.live))) }
+        record { live = λ l. false_true (is_live b.slots.phase) l (ap is_live phase); late = λ l. unsettled_as (written y h (first (is_open m.live))) }
       where
         unsettled_as : (y.unsettled ≡ 0) ⊎ Doomed (writable_at i s) → (b.slots.unsettled ≡ 0) ⊎ Doomed (writable_at i s)
         unsettled_as (inl u) = inl (alike.unsettled ∙ u)
         unsettled_as (inr d) = inr d
     moved b same (MoveEnds e m h o) =
         let phase : b.slots.phase ≡ Over = ap (λ (y : pipe.Slots). y.phase) e in
-        record { live = λ l. true_false (is_live b.slots.phase) l (ap is_live phase); late = λ l. written b.slots h (first (is_open m.live)) }
+        record { live = λ l. false_true (is_live b.slots.phase) l (ap is_live phase); late = λ l. written b.slots h (first (is_open m.live)) }
     moved b same (MoveFinishes r f e o) =
         let phase : b.slots.phase ≡ Over = ap (λ (y : pipe.Slots). y.phase) e in
         let n : is_live x.phase ≡ false = ap is_live (acting r f) in
-        record { live = λ l. true_false (is_live b.slots.phase) l (ap is_live phase); late = λ l. settled b same n (was n) }
+        record { live = λ l. false_true (is_live b.slots.phase) l (ap is_live phase); late = λ l. settled b same n (was n) }
 
   own-row : (s : Slots) (operation : PipeOperation) (es : List Effect) → let e : Effect = Pipe p operation in Steady s (e ∷ es) → Steady (row e s).slots ((row e s).caused ++ es)
   unfolding row
@@ -290,7 +190,7 @@ module _ (p : PipeId) (i : StreamId) where
       let d : Done = put_pipe p s b in
       let same : row e s ≡ d = ap (on_pipe_at (λ ends. pipe_operation p ends operation) p s) k.there in
       let kept = each_pipe_keeps_its_ends p ends operation x s.promises in
-      let m : Moved x s b = moved operation x s k.dest (λ l. (k.live l).0) k.late (told_acting s operation es x k.there (k.straight.waits p)) b refl (each_pipe_moves p ends operation x s.promises) in
+      let m : Moved x s b = moved operation x s k.dest (λ l. (k.live l).0) k.late (told_acting p s operation es x k.there (k.straight.waits p)) b refl (each_pipe_moves p ends operation x s.promises) in
       subst (λ (c : Done). Steady c.slots (c.caused ++ es)) (sym same) (record {
         x = b.slots;
         there = place_same s.pipes p.0 x b.slots k.there;
@@ -345,35 +245,10 @@ module _ (p : PipeId) (i : StreamId) where
   pub heard-steady : (s : Slots) → Locked (after_event s) [] → Steady s [] → Steady (after_event s) []
   heard-steady s locked k = begins-steady s (after_event s) [] k k.there refl (straight-heard s k.straight) locked (λ f. tt)
 
-  -- no call closes the destination of a pipe that isn't over
-
-  spared : (source : StreamId) (e : Effect) → spares source i e ≡ true → NoClose i e
-  spared source (Writable j (Close q)) e = apart j e
-    where
-      apart : (j : StreamId) → not (true && is_same j i) ≡ true → is_same i j ≡ false
-      apart j e = grind arith
-  spared source (Writable j (ClosePropagating q)) e = apart j e
-    where
-      apart : (j : StreamId) → not (true && is_same j i) ≡ true → is_same i j ≡ false
-      apart j e = grind arith
-  spared source (Writable j operation) e = tt
-  spared source _ e = tt
-
-  all_spared : (source : StreamId) (es : List Effect) → all_spare source i es ≡ true → Each (NoClose i) es
-  all_spared source [] e = tt
-  all_spared source (d ∷ es) e = (spared source d (and_left (spares source i d) (all_spare source i es) e), all_spared source es (and_right (spares source i d) (all_spare source i es) e))
-
-  calls-close : (entries : List Entry) (c : Call) (x : pipe.Slots) → let s : Slots = run entries empty in slice_get s.pipes p.0 ≡ Some x → x.dest ≡ i → is_live x.phase ≡ true → Each (NoClose i) (begin c s).done.caused
-  calls-close entries c x e dest live =
-      let s : Slots = run entries empty in
-      let at : pipe_at p s ≡ x = ap as_pipe e in
-      let owns = each_pipe_owns_its_ends entries p (ap (λ (y : pipe.Slots). is_over y.phase) at ∙ live_over x.phase live) in
-      all_spared (pipe_at p s).source (begin c s).done.caused (subst (λ (j : StreamId). all_spare (pipe_at p s).source j (begin c s).done.caused ≡ true) (ap (λ (y : pipe.Slots). y.dest) at ∙ dest) (owns.calls c))
-
   pub call-steady : (entries : List Entry) (c : Call) → let s : Slots = run entries empty in Steady s [] → Steady (begin c s).done.slots (begin c s).done.caused
   call-steady entries c k =
       let s : Slots = run entries empty in
-      begins-steady s (begin c s).done.slots (begin c s).done.caused k (call-there p i k.x c s k.there) (call-same p i c s k.stands) (straight-stays.call s c k.straight) (locked-stays.call s c k.locked) (λ f. calls-close entries c k.x k.there k.dest f)
+      begins-steady s (begin c s).done.slots (begin c s).done.caused k (call-there p i k.x c s k.there) (call-same p i c s k.stands) (straight-stays.call s c k.straight) (locked-stays.call s c k.locked) (λ f. calls-close p i entries c k.x k.there k.dest f)
 
   pub called-steady : (c : Call) (s : Slots) → Steady (begin c s).done.slots (begin c s).done.caused → Steady (step s (Called c)) []
   called-steady c s k = older-steady _ (named-steady (begin c s).reply (performed (begin c s).done) (done-steady (begin c s).done k))

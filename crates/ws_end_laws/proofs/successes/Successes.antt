@@ -19,8 +19,8 @@ use Rattle.ws_pipe_laws.specs.pipes.PipeHistory.{effect_promises, run_moments, p
 use Rattle.ws_end_laws.proofs.wrote.Fronts.{run-append}
 use Rattle.ws_end_laws.specs.hosts.HostLaws.{next_pipe}
 use Rattle.ws_end_laws.proofs.hosts.PipedRuns.{run-last}
-use Rattle.ws_end_laws.proofs.hosts.Writing.{AllIn, Writings, no_writings, writings_then, writings-history, effect_writings, step_writings}
-use Rattle.ws_end_laws.proofs.hosts.Succeeded.{run-unmade, over_made}
+use Rattle.ws_end_laws.proofs.successes.Appended.{AllIn, Writings, no_writings, writings_then, writings-history, effect_writings, step_writings}
+use Rattle.ws_end_laws.proofs.hosts.Made.{run-unmade, over_made}
 use Rattle.ws_end_laws.proofs.hosts.Doomed.{Doomed}
 use Rattle.ws_end_laws.proofs.hosts.Making.{New}
 use Rattle.ws_end_laws.proofs.hosts.Origins.{pipe-origin}
@@ -193,7 +193,7 @@ module _ (before after : List Entry) (c : Call) (new : New (run before empty) (b
     unrejected : is_failing (writable_at y.dest end).state ≡ false → All (IsUnrejected end.promises) made
     unrejected n =
         let both = over_both p y.dest whole empty in
-        let of_pipe : (writings p y.dest whole empty).made ≡ made = ap (λ (h : Writings). h.made) both ∙ over_made p y.dest whole empty in
+        let of_pipe : (writings p y.dest whole empty).made ≡ made = ap (λ (h : Writings). h.made) both ∙ over_made p whole empty in
         let promised : (writings p y.dest whole empty).promised ≡ run_promised y.dest whole empty = ap (λ (h : Writings). h.promised) both in
         let a : AllIn made (run_promised y.dest whole empty) =
         subst (λ (ds : List PromiseId). AllIn ds (run_promised y.dest whole empty)) of_pipe (subst (AllIn (writings p y.dest whole empty).made) promised (among n all-writing)) in
@@ -224,7 +224,7 @@ module _ (before after : List Entry) (c : Call) (new : New (run before empty) (b
       by true f = open-succeeded f x e l (subst (λ (j : StreamId). is_failing (writable_at j end).state ≡ false) (same-dest x e) n)
       by false f =
           none-fulfilled end.promises made
-          (sym (over_made p y.dest whole empty) ∙ none-made p y.dest before after c (run-unmade p before (past s.pipes)) new.stands f (record { slots = y; there = there-now; dest = refl; idle = new.idle }))
+          (sym (over_made p whole empty) ∙ none-made p y.dest before after c (run-unmade p before (past s.pipes)) new.stands f (record { slots = y; there = there-now; dest = refl; idle = new.idle }))
 
 pub each_write_before_a_failure_succeeded : EachWriteBeforeAFailureSucceeded
 each_write_before_a_failure_succeeded entries p x e l n =

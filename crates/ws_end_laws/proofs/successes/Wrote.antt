@@ -1,5 +1,5 @@
 -- A pipe that isn't live makes no write any more, so what holds of its writes then holds however the run goes on.
-use Rattle.std.proofs.Common.{◌≡◌, ℕ, Bool, true, false, nat_eq, if◌then◌else◌, get_or, List, [], ◌∷◌, ◌++◌, Option, Some, None, slice_get, refl, sym, ap, subst, ◌∙◌, arith, append-nil}
+use Rattle.std.proofs.Common.{◌≡◌, ℕ, Bool, true, false, nat_eq, if◌then◌else◌, get_or, List, [], ◌∷◌, ◌++◌, Option, Some, slice_get, refl, sym, ap, subst, ◌∙◌, arith, append-nil}
 use Rattle.ws_value.specs.declared.{ids.PipeId.{PipeId}, ids.PromiseId.{PromiseId}, ids.StreamId.{StreamId}}
 use Rattle.ws_value.specs.declared.value.{Outcome.TheVariants.{Fulfilled}, Plain.{Plain}, Plain.TheVariants.{Undefined}, Value.{Value}}
 use Rattle.ws_steps.specs.declared.effects.Effect.{Effect}
@@ -13,10 +13,8 @@ use Rattle.ws_steps.specs.Promises.{next_id, outcome_at}
 use Rattle.ws_steps.specs.Run.{Entry, run}
 use Rattle.ws_steps.specs.Slots.{Slots, Done, empty, as_pipe, pipe_at, ends_at, put_pipe, on_pipe_at}
 use Rattle.ws_steps.specs.Turns.{row}
-use Rattle.ws_steps.proofs.PromiseLaws.{slice_get-set_other}
-use Rattle.ws_laws.proofs.Apart.{row-pipes}
 use Rattle.ws_laws.proofs.Stays.{each_outcome_stays}
-use Rattle.ws_laws.proofs.Tables.{eq_numbers, unequal_numbers}
+use Rattle.ws_laws.proofs.Tables.{eq_numbers}
 use Rattle.ws_laws.proofs.Walker.{GoesUntold, RestsUntold, run-goes_untold}
 use Rattle.ws_pipe_laws.specs.pipes.PipeHistory.{is_live, is_over, effect_promises, held_promise, operation_promises, promises_made, run_moments}
 use Rattle.ws_pipe_laws.specs.pipes.PipeMoves.{starting, Move, MoveRests, MoveWaits, MoveActs, MoveEnds, MoveFinishes}
@@ -27,12 +25,11 @@ use Rattle.ws_end_laws.proofs.ends.PromiseEnds.{each_promise_is_open_until_the_e
 use Rattle.ws_end_laws.proofs.hosts.Acts.{NotOf}
 use Rattle.ws_end_laws.proofs.hosts.Called.{lists-history}
 use Rattle.ws_end_laws.proofs.hosts.PipedRuns.{call-there}
-use Rattle.ws_end_laws.proofs.hosts.Succeeded.{over_made}
+use Rattle.ws_end_laws.proofs.hosts.Made.{over_made}
 use Rattle.ws_end_laws.specs.successes.Successes.{EachWriteOfAnUnfailingPipeSucceeded}
 use Rattle.ws_end_laws.proofs.successes.Successes.{each_write_before_a_failure_succeeded}
-
-true_false : {A : Type 0} (b : Bool) → b ≡ true → b ≡ false → A
-true_false b e f = cc
+use Rattle.ws_laws.proofs.Truth.{false_true}
+use Rattle.ws_end_laws.proofs.hosts.Places.{other_there, self}
 
 module _ (p : PipeId) where
   record Late (h : List PromiseId) (s : Slots) (es : List Effect) : Type 0 where
@@ -41,17 +38,14 @@ module _ (p : PipeId) where
     late : is_live x.phase ≡ false
     none : h ≡ []
 
-  self : nat_eq p.0 p.0 ≡ true
-  self = grind arith
-
   flowing_live : (phase : Phase) → phase ≡ Flowing → is_live phase ≡ true
   flowing_live phase e = ap is_live e
 
   move-late : (operation : PipeOperation) (x : pipe.Slots) (s : Slots) (b : pipe.Acts) → is_live x.phase ≡ false → Move p (ends_at x s) operation x s.promises b → is_live b.slots.phase ≡ false
   move-late operation x s b l (MoveRests f a e idle) = ap is_live f ∙ l
-  move-late operation x s b l (MoveWaits f e m w o) = true_false (is_live x.phase) (ap is_live f) l
-  move-late operation x s b l (MoveActs action y e m h o alike) = true_false (is_live x.phase) m.live l
-  move-late operation x s b l (MoveEnds e m h o) = true_false (is_live x.phase) m.live l
+  move-late operation x s b l (MoveWaits f e m w o) = false_true (is_live x.phase) (ap is_live f) l
+  move-late operation x s b l (MoveActs action y e m h o alike) = false_true (is_live x.phase) m.live l
+  move-late operation x s b l (MoveEnds e m h o) = false_true (is_live x.phase) m.live l
   move-late operation x s b l (MoveFinishes r f e o) = ap (λ (y : pipe.Slots). is_live y.phase) e
 
   pub none_promised : (operation : PipeOperation) (x : pipe.Slots) (d : PromiseId) → is_live x.phase ≡ false → operation_promises operation x d ≡ []
@@ -64,17 +58,8 @@ module _ (p : PipeId) where
       by Over o l = refl
   none_promised operation x d l = refl
 
-  other_place : (q : PipeId) (operation : PipeOperation) (s : Slots) (o : Option pipe.Slots) → nat_eq p.0 q.0 ≡ false → slice_get (on_pipe_at (λ ends. pipe_operation q ends operation) q s o).slots.pipes p.0 ≡ slice_get s.pipes p.0
-  other_place q operation s None n = refl
-  other_place q operation s (Some x) n = slice_get-set_other s.pipes q.0 p.0 _ (λ f. unequal_numbers p.0 q.0 n (sym f))
-
-  pub other_there : (e : Effect) (s : Slots) → NotOf p e → slice_get (row e s).slots.pipes p.0 ≡ slice_get s.pipes p.0
-  unfolding row
-  other_there (Pipe q operation) s n = other_place q operation s (slice_get s.pipes q.0) n
-  other_there e s n = ap (λ (ps : List pipe.Slots). slice_get ps p.0) (row-pipes e s tt)
-
   other-late : (h : List PromiseId) (s : Slots) (e : Effect) (es : List Effect) → NotOf p e → effect_promises p e s ≡ [] → Late h s (e ∷ es) → Late (h ++ effect_promises p e s) (row e s).slots ((row e s).caused ++ es)
-  other-late h s e es n none k = record { x = k.x; there = other_there e s n ∙ k.there; late = k.late; none = ap (λ (ds : List PromiseId). ds ++ effect_promises p e s) k.none ∙ none }
+  other-late h s e es n none k = record { x = k.x; there = other_there p e s n ∙ k.there; late = k.late; none = ap (λ (ds : List PromiseId). ds ++ effect_promises p e s) k.none ∙ none }
 
   own-late : (h : List PromiseId) (s : Slots) (operation : PipeOperation) (es : List Effect) → let e : Effect = Pipe p operation in Late h s (e ∷ es) → Late (h ++ effect_promises p e s) (row e s).slots ((row e s).caused ++ es)
   unfolding row
@@ -83,7 +68,7 @@ module _ (p : PipeId) where
       let b : pipe.Acts = pipe_operation p (ends_at x s) operation (starting x s.promises) in
       let same : row (Pipe p operation) s ≡ put_pipe p s b = ap (on_pipe_at (λ ends. pipe_operation p ends operation) p s) k.there in
       let made : effect_promises p (Pipe p operation) s ≡ [] =
-      ap (λ (c : Bool). if c then operation_promises operation (pipe_at p s) (next_id s.promises) else []) self
+      ap (λ (c : Bool). if c then operation_promises operation (pipe_at p s) (next_id s.promises) else []) (self p)
       ∙ (ap (λ (y : pipe.Slots). operation_promises operation y (next_id s.promises)) (ap as_pipe k.there) ∙ none_promised operation x (next_id s.promises) k.late) in
       record {
         x = b.slots;
@@ -124,9 +109,9 @@ module _ (p : PipeId) where
   pub same-made : (xs ys : List Entry) (x : pipe.Slots) → slice_get (run xs empty).pipes p.0 ≡ Some x → is_live x.phase ≡ false → promises_made p (run_moments (xs ++ ys) empty) ≡ promises_made p (run_moments xs empty)
   same-made xs ys x e l =
       let i : StreamId = record { 0 = 0 } in
-      sym (over_made p i (xs ++ ys) empty)
+      sym (over_made p (xs ++ ys) empty)
       ∙ (over-append [] ◌++◌ lists-history (λ s x. in_step [] ◌++◌ (effect_promises p) s x) xs ys empty
-      ∙ (ap (λ (ds : List PromiseId). made xs empty ++ ds) (none-more ys (run xs empty) x e l) ∙ (append-nil (made xs empty) ∙ over_made p i xs empty)))
+      ∙ (ap (λ (ds : List PromiseId). made xs empty ++ ds) (none-more ys (run xs empty) x e l) ∙ (append-nil (made xs empty) ∙ over_made p xs empty)))
 
 all-stay : (s : Slots) (ys : List Entry) (ds : List PromiseId) → AllFulfilled s.promises ds → AllFulfilled (run ys s).promises ds
 all-stay s ys ds a = λ n d h. each_outcome_stays s ys (get_or ds n d) (Fulfilled Undefined) refl (a n d h)

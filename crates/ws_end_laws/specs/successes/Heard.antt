@@ -1,5 +1,5 @@
 -- What a pipe hears of its action, and how it ends.
-use Rattle.std.specs.Prelude.{◌≡◌, ◌⊎◌, true, nat_eq, if◌then◌else◌, List, [], ◌∷◌, ◌++◌, Some, None, Result, slice_get}
+use Rattle.std.specs.Prelude.{◌≡◌, ◌⊎◌, ◌&&◌, Bool, true, false, nat_eq, if◌then◌else◌, List, [], ◌∷◌, ◌++◌, Some, None, Result, slice_get}
 use Rattle.ws_value.specs.declared.ids.PipeId.{PipeId}
 use Rattle.ws_value.specs.declared.ids.PromiseId.{PromiseId}
 use Rattle.ws_value.specs.declared.value.Outcome.TheVariants.{Fulfilled}
@@ -11,8 +11,9 @@ use Rattle.ws_steps.specs.declared.effects.Use.TheVariants.{React}
 use Rattle.ws_steps.specs.declared.pipes.Action.{Action}
 use Rattle.ws_steps.specs.declared.pipes.Phase.TheVariants.{Flowing}
 use Rattle.ws_steps.specs.declared.pipes.PipeOperation.{PipeOperation}
-use Rattle.ws_steps.specs.declared.pipes.PipeOperation.TheVariants.{ActionSettled}
-use Rattle.ws_steps.specs.declared.promises.Step.TheVariants.{PipeActed}
+use Rattle.ws_steps.specs.declared.pipes.PipeOperation.TheVariants.{ActionSettled, PartSettled}
+use Rattle.ws_steps.specs.declared.promises.Step.{Step}
+use Rattle.ws_steps.specs.declared.promises.Step.TheVariants.{PipeActed, PipePart}
 use Rattle.ws_steps.specs.Pipes as pipe
 use Rattle.ws_steps.specs.Promises.{Table, settled, outcome_at}
 use Rattle.ws_steps.specs.Run.{Entry, run}
@@ -23,19 +24,38 @@ use Rattle.ws_pipe_laws.specs.pipes.PipeMoves.{acted}
 use Rattle.ws_pipe_laws.specs.pipes.PipeWrites.{AllSince}
 use Rattle.ws_end_laws.specs.ends.PromiseEnds.{outcome_of_end}
 
--- the promises to which pipe p is to react as to that of its action, by these effects
-abbrev pub heard_in : PipeId → List Effect → List PromiseId
-heard_in p [] = []
-heard_in p (Give (This d) (React (PipeActed q) derived) ∷ es) = (if nat_eq p.0 q.0 then d ∷ [] else []) ++ heard_in p es
-heard_in p (e ∷ es) = heard_in p es
+-- what a pipe reacts to: the promise of its action, or that of a part of what its signal does
+pub data Awaited : Type 0 where
+  ItsAction : Awaited
+  APart : Awaited
+
+abbrev pub is_action : Awaited → Bool
+is_action ItsAction = true
+is_action APart = false
+
+abbrev pub is_part : Awaited → Bool
+is_part ItsAction = false
+is_part APart = true
+
+-- whether this is that reaction of pipe p
+abbrev pub is_reaction : Awaited → PipeId → Step → Bool
+is_reaction what p (PipeActed q) = is_action what && nat_eq p.0 q.0
+is_reaction what p (PipePart q) = is_part what && nat_eq p.0 q.0
+is_reaction what p _ = false
+
+-- the promises to which pipe p is to react so, by these effects
+abbrev pub heard_in : Awaited → PipeId → List Effect → List PromiseId
+heard_in what p [] = []
+heard_in what p (Give (This d) (React step derived) ∷ es) = (if is_reaction what p step then d ∷ [] else []) ++ heard_in what p es
+heard_in what p (e ∷ es) = heard_in what p es
 
 -- those by what an effect causes, and by what is caused in these moments
-abbrev pub effect_heard : PipeId → Effect → Slots → List PromiseId
-effect_heard p e s = heard_in p (row e s).caused
+abbrev pub effect_heard : Awaited → PipeId → Effect → Slots → List PromiseId
+effect_heard what p e s = heard_in what p (row e s).caused
 
-abbrev pub promises_heard : PipeId → List Moment → List PromiseId
-promises_heard p [] = []
-promises_heard p (m ∷ ms) = effect_heard p m.effect m.found ++ promises_heard p ms
+abbrev pub promises_heard : Awaited → PipeId → List Moment → List PromiseId
+promises_heard what p [] = []
+promises_heard what p (m ∷ ms) = effect_heard what p m.effect m.found ++ promises_heard what p ms
 
 abbrev pub Among : PromiseId → List PromiseId → Type 0
 Among q [] = ⊥
@@ -50,13 +70,18 @@ pub record IsOutcome (t : Table) (ds : List PromiseId) (o : Result Plain Plain) 
 abbrev pub EachOutcomeHeardIsThePromises : Type 0
 EachOutcomeHeardIsThePromises =
     (entries : List Entry) (p : PipeId)
-    → AllSince (λ past m. (o : Result Plain Plain) → m.effect ≡ OnPipe p (ActionSettled o) → IsOutcome m.found.promises (promises_heard p past) o) [] (run_moments entries empty)
+    → AllSince (λ past m. (o : Result Plain Plain) → m.effect ≡ OnPipe p (ActionSettled o) → IsOutcome m.found.promises (promises_heard ItsAction p past) o) [] (run_moments entries empty)
+
+abbrev pub EachOutcomeOfAPartIsItsPromises : Type 0
+EachOutcomeOfAPartIsItsPromises =
+    (entries : List Entry) (p : PipeId)
+    → AllSince (λ past m. (o : Result Plain Plain) → m.effect ≡ OnPipe p (PartSettled o) → IsOutcome m.found.promises (promises_heard APart p past) o) [] (run_moments entries empty)
 
 -- how a pipe ended that performed an action
 pub record EndsAsItsAction (p : PipeId) (x : pipe.Slots) (entries : List Entry) : Type 0 where
   pub promise : PromiseId
   pub outcome : Result Plain Plain
-  pub one : promises_heard p (run_moments entries empty) ≡ promise ∷ []
+  pub one : promises_heard ItsAction p (run_moments entries empty) ≡ promise ∷ []
   pub settled : outcome_at (run entries empty).promises promise ≡ Some (settled outcome)
   pub shutdown : (run_course p entries empty).shutdowns ≡ shutdown x.action x.error ∷ []
   pub acted : (run_course p entries empty).acted ≡ x.action ∷ []
@@ -92,8 +117,8 @@ pub record ActedFor (p : PipeId) (action : Action) (ms : List Moment) : Type 0 w
   pub effect : moment.effect ≡ OnPipe p operation
   pub live : is_live (pipe_at p moment.found).phase ≡ true
   pub caused : (row moment.effect moment.found).caused ≡ (acted p (ends_at (pipe_at p moment.found) moment.found) (pipe_at p moment.found) moment.found.promises action).out.effects
-  pub heard : effect_heard p moment.effect moment.found ≡ promise ∷ []
-  pub only : promises_heard p ms ≡ promise ∷ []
+  pub heard : effect_heard ItsAction p moment.effect moment.found ≡ promise ∷ []
+  pub only : promises_heard ItsAction p ms ≡ promise ∷ []
 
 -- its promise has the outcome of its shutdown: without an action that of its error, and with one as its action tells
 pub data IsAnswered (p : PipeId) (x : pipe.Slots) (entries : List Entry) : Type 0 where
