@@ -1,8 +1,12 @@
--- What the taking of events leaves of the places.
-use Rattle.std.proofs.Common.{◌≤◌, ℕ, List, [], ◌∷◌, length, arith}
-use Rattle.ws_steps.specs.Promises.{Table}
+-- What the taking of events, and the release of promises, leaves of the places.
+use Rattle.std.proofs.Common.{◌≡◌, ◌≤◌, ℕ, suc, Bool, true, false, if◌then◌else◌, List, [], ◌∷◌, length, Option, Some, None, refl, ap, arith}
+use Rattle.ws_value.specs.declared.ids.PromiseId.{PromiseId}
+use Rattle.ws_steps.specs.Places.{reactions_in, reactions_of, unnoted_in, unnoted_of}
+use Rattle.ws_steps.specs.Promises.{Entry, Table}
 use Rattle.ws_steps.specs.Run.{later_events}
+use Rattle.ws_steps.specs.Slots.{Slots}
 use Rattle.ws_steps.specs.declared.calls.Event.{Event}
+use Rattle.ws_alike.specs.Alike.{forgotten, is_needed, trim, trimmed_entry, trimmed_from}
 use Rattle.ws_promise.specs.Seen.{Seen, HasRoom, jobs_in, events_in}
 use Rattle.ws_tables.specs.Room.{IsPrepared, IsResting, places_for}
 use Rattle.ws_tables.specs.declared.tables.Tables.{Tables}
@@ -27,6 +31,46 @@ later-less (e ∷ es) = omega arith
 -- the taking of an event leaves one, or none
 pub later-events-less : (t : Table) → Less t (record t { events = later_events t.events })
 later-events-less t = let h = later-less t.events in record { entries = omega arith; jobs = omega arith; events = omega (arith, h) }
+
+-- what is left without the promises that aren't needed
+
+trimmed-length : (k : ℕ) (s : Slots) (es : List (Option Entry)) → length (trimmed_from k s es) ≡ length es
+trimmed-length k s [] = refl
+trimmed-length k s (e ∷ es) = ap suc (trimmed-length (suc k) s es)
+
+one-reactions : (p : PromiseId) (s : Slots) (e : Option Entry) → reactions_of (trimmed_entry p s e) ≤ reactions_of e
+one-reactions p s None = omega arith
+one-reactions p s (Some e) = by (is_needed p s e)
+  where
+    by : (c : Bool) → reactions_of (if c then Some e else Some forgotten) ≤ reactions_of (Some e)
+    by true = omega arith
+    by false = omega arith
+
+one-unnoted : (p : PromiseId) (s : Slots) (e : Option Entry) → unnoted_of (trimmed_entry p s e) ≤ unnoted_of e
+one-unnoted p s None = omega arith
+one-unnoted p s (Some e) = by (is_needed p s e)
+  where
+    by : (c : Bool) → unnoted_of (if c then Some e else Some forgotten) ≤ unnoted_of (Some e)
+    by true = omega arith
+    by false = omega arith
+
+trimmed-reactions : (k : ℕ) (s : Slots) (es : List (Option Entry)) → reactions_in (trimmed_from k s es) ≤ reactions_in es
+trimmed-reactions k s [] = omega arith
+trimmed-reactions k s (e ∷ es) = let a = one-reactions (record { 0 = k }) s e in let b = trimmed-reactions (suc k) s es in omega (arith, a, b)
+
+trimmed-unnoted : (k : ℕ) (s : Slots) (es : List (Option Entry)) → unnoted_in (trimmed_from k s es) ≤ unnoted_in es
+trimmed-unnoted k s [] = omega arith
+trimmed-unnoted k s (e ∷ es) = let a = one-unnoted (record { 0 = k }) s e in let b = trimmed-unnoted (suc k) s es in omega (arith, a, b)
+
+pub trim-long : (s : Slots) → length s.promises.entries ≤ length (trim s).promises.entries
+trim-long s = let a = trimmed-length 0 s s.promises.entries in omega (arith, a)
+
+pub trim-less : (s : Slots) → Less s.promises (trim s).promises
+trim-less s =
+    let a = trimmed-length 0 s s.promises.entries in
+    let b = trimmed-reactions 0 s s.promises.entries in
+    let c = trimmed-unnoted 0 s s.promises.entries in
+    record { entries = omega (arith, a); jobs = omega (arith, b); events = omega (arith, c) }
 
 -- a realm is between calls still, where promises get no fewer
 pub rests-still : (t : Tables) (u : Table) → length t.promises.table.entries ≤ length u.entries → IsResting t → IsResting (record t { promises = record t.promises { table = u } })

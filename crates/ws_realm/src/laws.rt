@@ -18,6 +18,7 @@ pub use ws_end_laws::hosts::each_write_of_a_fulfilled_pipe_succeeded;
 pub use ws_end_laws::hosts::each_write_was_settled;
 pub use ws_end_laws::successes::each_fulfilled_pipe_wrote_all_it_read;
 pub use ws_end_laws::successes::each_outcome_heard_is_the_promises;
+pub use ws_end_laws::successes::each_outcome_of_a_part_is_its_promises;
 pub use ws_end_laws::successes::each_pass_has_a_promise;
 pub use ws_end_laws::successes::each_pipe_ends_as_it_shut_down;
 pub use ws_end_laws::successes::each_pipe_ends_as_its_action;

@@ -9,6 +9,7 @@ ghost use Rattle.ws_steps.specs.Laws.{errs};
 ghost use Rattle.ws_steps.specs.Queues.{is_empty};
 ghost use Rattle.ws_steps.specs.Run as run;
 ghost use Rattle.ws_steps.specs.Slots.{empty, is_live, pair_at};
+ghost use Rattle.ws_alike.specs.Alike.{Alike, EachKeptIsNeeded, kept, trim};
 ghost use Rattle.ws_realm.specs.Seen.{StopsWithin, outcome_named, oldest};
 ghost use Rattle.ws_realm.specs.declared.realm.Why.TheVariants as why;
 
@@ -217,7 +218,8 @@ impl Realm {
         Ok(())
     }
 
-    /// The state of `p` with its result: none says that no reply has named `p`. A promise stays as long as its realm.
+    /// The state of `p` with its result: none says that no reply has named `p`. One that a reply has named stays as long
+    /// as its realm.
     pub fn outcome(&self, p: PromiseId) -> Option<&Outcome>
         ensures { option_map (λ outcome. outcome.now) result ≡ outcome_named p self.now.slots }
     {
@@ -239,6 +241,25 @@ impl Realm {
         ensures { result ≡ length self.now.slots.promises.jobs }
     {
         self.tables.promises.queued() as u64
+    }
+
+    /// How many promises the realm keeps: all but those that were fulfilled with undefined while nobody watched them,
+    /// and those that `tidy` released.
+    pub fn kept(&self) -> u64
+        ensures { result ≡ kept self.now.slots }
+    {
+        self.tables.promises.kept() as u64
+    }
+
+    /// Releases each promise that isn't needed: one that has settled, that no reply has named, and that no record, job
+    /// or reaction names. It takes no memory, and the slots stay alike.
+    pub fn tidy(&mut self)
+        ensures slots { self.new.slots ≡ trim self.old.slots }
+        ensures alike { Alike self.old.slots self.new.slots }
+        ensures needed { EachKeptIsNeeded self.new.slots }
+        ensures prepared { self.new.prepared ≡ self.old.prepared }
+    {
+        self.tables.tidy();
     }
 
     /// Whether there is something that the host hasn't heard of yet.
