@@ -25,7 +25,7 @@ use Rattle.ws_pipe_laws.specs.pipes.PipeHistory.{is_over, run_course}
 use Rattle.ws_end_laws.specs.hosts.HostCalls.{WasSettledWell}
 use Rattle.ws_chain_laws.specs.Chain.{Target, ToSink, ToPort, dest_of, link_of}
 use Rattle.ws_chain_laws.proofs.Links.{link-at}
-use Rattle.ws_realm.specs.Seen.{outcome_named, where_named}
+use Rattle.ws_realm.specs.Seen.{where_named}
 use Rattle.ws_realm.specs.declared.realm.Why.TheVariants as why
 use Rattle.ws_reason_laws.specs.Reasons.{failures}
 use Rattle.ws_node.specs.declared.node.Exit.{Exit}
@@ -36,6 +36,7 @@ use Rattle.ws_node.specs.Ends.{EndsAs, EndsBy, EndedBy, Own as EndsOwn, Passed a
 use Rattle.ws_node.specs.Node.{outcome_of_pipe, has_settled, feeds_edge}
 use Rattle.ws_node.specs.Past.{AreCaused, AllCaused, UntilError, IsCause, Passed, Own, IsOwnFault, IsOwnCause, is_shut, FeedsAs, Led, Driven}
 use Rattle.ws_node.specs.Ran.{PipeEnds}
+use Rattle.ws_node.proofs.Alike.{outcome-alike}
 use Rattle.ws_node.proofs.Fairly.{fair-clones}
 use Rattle.ws_node.proofs.Ran.{pipe-ends}
 
@@ -73,14 +74,13 @@ module _ (shape : Shape) (past : List Entry) (n : Node) (led : Led shape past n)
   ends = subst (PipeEnds shape past) (sym led.piped) (pipe-ends shape past n.core.realm.slots led.ran led.is_of.fit)
 
   outcome-is : outcome_of_pipe n.core ≡ out
-  outcome-is = ap (λ (s : Slots). outcome_named n.core.pipe s) led.ran.slots ∙ where_is (rank_at (run past empty).promises n.core.pipe) out ends.watched
+  outcome-is = outcome-alike n.core.pipe n.core.realm.slots (run past empty) led.ran.slots ∙ where_is (rank_at (run past empty).promises n.core.pipe) out ends.watched
 
   settles : Settles out
   settles =
       let s : Slots = run past empty in
       let x = pipe_at (link_of k) s in
-      let there : slice_get s.pipes k ≡ Some x =
-      subst (λ (z : Slots). slice_get z.pipes k ≡ Some (pipe_at (link_of k) z)) led.ran.slots (link-at shape.origin shape.target k n.core.realm.slots led.ran.wired k (omega arith)).link.there in
+      let there : slice_get s.pipes k ≡ Some x = (link-at shape.origin shape.target k s led.ran.wired k (omega arith)).link.there in
       settles-by x (is_over x.phase) (run_course (link_of k) past empty).ended out refl
       (subst (λ (p : PromiseId). IsOpenUntilTheEnd x (run_course (link_of k) past empty).ended (outcome_at s.promises p)) ends.its
       (each_promise_is_open_until_the_end past (link_of k) x there))

@@ -14,6 +14,7 @@ use Rattle.ws_steps.specs.Histories.{taken_event}
 use Rattle.ws_steps.specs.PortHistory.{has_end, is_end, is_same_port, posted_by, posted_in}
 use Rattle.ws_steps.specs.Run.{Entry, Worked, Heard, run, step, after_event, first_event, jobs_in_a_row}
 use Rattle.ws_steps.specs.Slots.{Slots}
+use Rattle.ws_alike.specs.Alike.{trim}
 use Rattle.ws_chain_laws.specs.Chain.{source_port}
 use Rattle.ws_node_laws.specs.Messages.{taken_events}
 use Rattle.ws_stages.specs.State.{State}
@@ -421,7 +422,7 @@ ends-post heard stopped (Some x) (Some y) more g = record {
 pub gives-post : (a b : Node) (m n : Moment) (p q : List ℕ → Type 0) → Went a b m n p q → GivesHeard a b → PostsHeard a b
 gives-post a b m n p q w g = record {
   entries = g.entries;
-  slots = g.slots;
+  slots = ap trim g.slots;
   above = ends-post (posted_in source_port (taken_events g.entries a.core.realm.slots)) b.core.stopped a.entrance.above b.entrance.above (posts-up a b m n p q w) g.above;
   below = ends-post (posted_in (port_below a.entrance) (taken_events g.entries a.core.realm.slots)) b.core.stopped a.exit.below b.exit.below (posts-down a b m n p q w) g.below;
 }

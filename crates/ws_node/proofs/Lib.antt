@@ -1,6 +1,7 @@
 mod Examples
 pub mod Acting
 pub mod Ahead
+pub mod Alike
 pub mod Alone
 pub mod Answering
 pub mod Asking
@@ -63,6 +64,7 @@ pub mod Taking
 pub mod TakingAbove
 pub mod TakingBelow
 pub mod Telling
+pub mod Tidying
 pub mod Turning
 pub mod Unheard
 pub mod Unprevented

@@ -27,6 +27,7 @@ use Rattle.ws_steps.specs.declared.calls.Call.TheVariants.{Enqueue, Fail, Trigge
 use Rattle.ws_steps.specs.PortHistory.{posted_in}
 use Rattle.ws_steps.specs.Run.{Entry, Called, Worked, Heard, run, step, performed_in}
 use Rattle.ws_steps.specs.Slots.{Slots, empty, most_streams}
+use Rattle.ws_alike.specs.Alike.{trim}
 use Rattle.ws_laws.proofs.Ages.{each_age_counts}
 use Rattle.ws_end_laws.specs.hosts.HostCalls.{settles_well}
 use Rattle.ws_link_laws.specs.Link.{silence}
@@ -312,8 +313,8 @@ module _ (shape : Shape) (first : ℕ) (abort : Option ℤ) (n : Node) (fit : Ar
   ran : HasRun shape past n.core.realm.slots
   ran = record {
     opened = record { since = []; is = refl; own = All-nil (IsOwnEntry k) };
-    slots = f.slots;
-    wired = subst (IsChain o t k) (sym slots-are) begins.chain;
+    slots = ap trim f.slots;
+    wired = subst (IsChain o t k) (sym slots-are ∙ f.slots) begins.chain;
     quiet = past-none o t k signalled [] few refl;
     teeless = subst (λ (s : Slots). s.tees ≡ []) (sym f.slots) (past-teeless o t k signalled [] tt);
   }

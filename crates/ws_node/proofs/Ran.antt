@@ -10,6 +10,8 @@ use Rattle.ws_steps.specs.declared.calls.Call.TheVariants.{Enqueue, Finish, Fail
 use Rattle.ws_steps.specs.Descriptors.{has_part}
 use Rattle.ws_steps.specs.Run.{Entry, Called, Worked, Heard, run, step}
 use Rattle.ws_steps.specs.Slots.{Slots, empty, byte_at, most_streams}
+use Rattle.ws_alike.specs.Alike.{Alike, trim}
+use Rattle.ws_alike.proofs.Running.{run-alike}
 use Rattle.ws_reason_laws.specs.Origins.{through_of, through}
 use Rattle.ws_reason_laws.specs.Reasons.{failures}
 use Rattle.ws_reason_laws.proofs.Brought.{through-append}
@@ -92,17 +94,17 @@ ran-longer shape past x s z r e own =
     let n = count_in shape in
     let o = shape.origin in
     let t = shape.target in
+    let before : Slots = run past empty in
     record {
       opened = opened-longer shape past x r.opened own;
-      slots = e ∙ (ap (λ (q : Slots). step q x) r.slots ∙ sym (run-snoc past x empty));
-      wired = subst (IsChain o t n) (sym e) (step-wired o t n x s r.wired own);
-      quiet =
-          through-append past (x ∷ []) empty
-          ∙ (ap (λ q. q ++ through (x ∷ []) (run past empty)) r.quiet ∙ subst (λ (q : Slots). through (x ∷ []) q ≡ []) r.slots (step-quiet o t n x s r.wired own));
+      slots = ap trim e ∙ (run-alike (x ∷ []) s before r.slots ∙ ap trim (sym (run-snoc past x empty)));
+      wired = subst (IsChain o t n) (sym (run-snoc past x empty)) (step-wired o t n x before r.wired own);
+      quiet = through-append past (x ∷ []) empty ∙ (ap (λ q. q ++ through (x ∷ []) before) r.quiet ∙ step-quiet o t n x before r.wired own);
       teeless = subst (λ (q : Slots). q.tees ≡ []) (sym e) (run-teeless (x ∷ []) s (own-teeless n x own) r.teeless);
     }
 
--- So the laws of a chain from its opening on are laws of a node: its calls since then are a node's, and its realm is that of the opening after them
+-- So the laws of a chain from its opening on are laws of a node: its calls since then are a node's, and its realm is alike to that of the opening after
+-- them
 
 own-nodes-all : (n : ℕ) (xs : List Entry) → All (IsOwnEntry n) xs → AreNodes xs
 own-nodes-all n [] a = tt
@@ -114,11 +116,11 @@ pub opened-nodes : (shape : Shape) (past : List Entry) (o : IsOpenedBy shape pas
 opened-nodes shape past o = own-nodes-all (count_in shape) o.since o.own
 
 pub opened-slots : (shape : Shape) (past : List Entry) (s : Slots) (r : HasRun shape past s)
-    → s ≡ run r.opened.since (chained shape.origin shape.target (count_in shape) shape.aborted)
+    → Alike s (run r.opened.since (chained shape.origin shape.target (count_in shape) shape.aborted))
 opened-slots shape past s r =
     let n = count_in shape in
     r.slots
-    ∙ (ap (λ (es : List Entry). run es empty) r.opened.is
+    ∙ ap trim (ap (λ (es : List Entry). run es empty) r.opened.is
     ∙ run-append (opening shape.origin shape.target n shape.aborted) (Called (piping (signal_of shape.aborted) n) ∷ r.opened.since) empty)
 
 -- what is given since then is fair where all is
@@ -137,6 +139,11 @@ few-streams stages few = omega arith
 -- with the same past
 pub ran-same : (shape : Shape) (past : List Entry) (s z : Slots) → HasRun shape past s → z ≡ s → HasRun shape past z
 ran-same shape past s z r e = subst (HasRun shape past) (sym e) r
+
+-- and with slots that are alike
+pub ran-alike : (shape : Shape) (past : List Entry) (s z : Slots) → HasRun shape past s → Alike z s → HasRun shape past z
+ran-alike shape past s z r h =
+    record { opened = r.opened; slots = h ∙ r.slots; wired = r.wired; quiet = r.quiet; teeless = ap (λ (q : Slots). q.tees) h ∙ r.teeless }
 
 -- how the pipe of the last link ends
 pub pipe-ends : (shape : Shape) (past : List Entry) (s : Slots) → HasRun shape past s → AreFit shape.stages

@@ -25,16 +25,15 @@ use Rattle.ws_steps.specs.Histories.{taken_event}
 use Rattle.ws_steps.specs.PortHistory.{posted_by, posted_in}
 use Rattle.ws_steps.specs.Promises.{next_job}
 use Rattle.ws_steps.specs.Run.{Entry, Called, Worked, Heard, run, step, after_call, after_job, after_event, first_event, jobs_in_a_row, performed_in}
-use Rattle.ws_steps.specs.Slots.{Slots, empty}
+use Rattle.ws_steps.specs.Slots.{Slots, empty, has_source}
 use Rattle.ws_laws.proofs.Ages.{called-age, each_age_counts}
 use Rattle.ws_end_laws.specs.hosts.HostCalls.{called, settles_well, AllEvents, IsItsCall}
 use Rattle.ws_end_laws.proofs.hosts.Called.{each_event_is_its_call}
-use Rattle.ws_link_laws.specs.Link.{silence}
-use Rattle.ws_chain_laws.specs.Chain.{transform_of, source_of, behind_at, IsChain}
-use Rattle.ws_chain_laws.specs.Laws.{next_enters, next_heard, KeepsBehind}
+use Rattle.ws_link_laws.specs.Link.{giver_at, silence}
+use Rattle.ws_chain_laws.specs.Chain.{transform_of, source_of, behind_at}
+use Rattle.ws_chain_laws.specs.Laws.{next_enters, next_heard}
 use Rattle.ws_chain_laws.specs.Outcomes.{JobBrings, Flushes, BringsNothing, BringsTheEnd}
 use Rattle.ws_chain_laws.proofs.Flushed.{each_end_was_flushed}
-use Rattle.ws_chain_laws.proofs.Keeps.{each_call_keeps_chain, each_job_keeps_chain, each_event_keeps_chain}
 use Rattle.ws_chain_laws.proofs.Links.{link-at}
 use Rattle.ws_chain_laws.proofs.Runs.{nodes-leave}
 use Rattle.ws_realm.specs.Seen.{SeenRealm, oldest}
@@ -49,6 +48,7 @@ use Rattle.ws_node.specs.Moves.{Asks, Performed, Refused, Stops, Before, Wanting
 use Rattle.ws_node.specs.Node.{feeds_edge, in_bytes, coming_behind, coming, lies, lies_in}
 use Rattle.ws_node.specs.Past.{AreCaused, IsCause, OneAtMost, ClosesFinished, FlushesFine, IsPull, Led, EndsHave}
 use Rattle.ws_node.specs.Ran.{IsOwn, IsOwnEntry, HasRun}
+use Rattle.ws_node.proofs.Alike.{call-keeps, job-keeps, event-keeps}
 use Rattle.ws_node.proofs.Bytes.{short-behind, nothing-follows, short-ended, lost-short, lying-both, lying-since, one-short, one-before}
 use Rattle.ws_node.proofs.Shut.{enqueue-shut, behind-mark}
 use Rattle.ws_node.proofs.Entries.{fair-append, called-longer, pull-longer, MayClose, closes-snoc, MayFlush, flushes-snoc}
@@ -63,7 +63,7 @@ core-causes : (n : Node) (realm : SeenRealm) (stopped : Option Why) → KeepsCau
 core-causes n realm stopped = same-causes n (record n { core = record n.core { realm = realm; stopped = stopped } }) refl refl refl refl
 
 -- where its past may be longer too
-led-as : (shape : Shape) (past ys : List Entry) (n : Node) (realm : SeenRealm) (stopped : Option Why) → Led shape past n → HasRun shape ys realm.slots → AllBringFair ys
+pub led-as : (shape : Shape) (past ys : List Entry) (n : Node) (realm : SeenRealm) (stopped : Option Why) → Led shape past n → HasRun shape ys realm.slots → AllBringFair ys
     → AreCaused shape ys n → ClosesFinished n.exit.sink ys n.exit.output → FlushesFine ys n.core.stages.items → IsPull ys n.entrance.asked
     → realm.slots.age ≤ oldest → (stopped ≡ Some Spent → realm.slots.age ≡ oldest) → Led shape ys (record n { core = record n.core { realm = realm; stopped = stopped } })
 led-as shape past ys n realm stopped s ran clones failed closes flushes asked young spent =
@@ -153,7 +153,7 @@ pub call-short : (shape : Shape) (past : List Entry) (a : Node) (realm : SeenRea
     → (k : ℕ) → k ≤ count_in shape → IsShortOf (behind_at k realm.slots) (then_told (behind_at k a.core.realm.slots) (enters_in shape k c))
 call-short shape past a realm c led own slots k l =
     subst (λ q. IsShortOf (behind_at k q) (then_told (behind_at k a.core.realm.slots) (enters_in shape k c))) (sym slots)
-    ((each_call_keeps_chain shape.origin shape.target (count_in shape) a.core.realm.slots c led.ran.wired (nodes-leave (count_in shape) c (own-nodes (count_in shape) c own))).short k l)
+    (call-keeps shape.origin shape.target (count_in shape) a.core.realm.slots (run past empty) led.ran.slots led.ran.wired c (nodes-leave (count_in shape) c (own-nodes (count_in shape) c own)) k l)
 
 stops-spent : (n : Node) (why : Why) → Stops why n → (n.core.stopped ≡ Some Spent → n.core.realm.slots.age ≡ oldest) → Some why ≡ Some Spent → n.core.realm.slots.age ≡ oldest
 stops-spent n why (Before f) g e = g (f ∙ e)
@@ -218,10 +218,11 @@ pub dropped : (shape : Shape) (past : List Entry) (a b : Node) (m : ℕ) (piece 
 dropped shape past a b m piece less led (Performed realm slots young goes is) not_done d e =
     let k : ℕ = suc m in
     let c : Call = Enqueue (source_of k) (Bytes piece) in
-    let at = link-at shape.origin shape.target (count_in shape) a.core.realm.slots led.ran.wired k less in
+    let at = link-at shape.origin shape.target (count_in shape) (run past empty) led.ran.wired k less in
     let shut : (behind_at k a.core.realm.slots).mark ≢ MayCome =
     behind-mark k a.core.realm.slots
-    (enqueue-shut (source_of k) (transform_of m) (Bytes piece) a.core.realm.slots at.link.source at.gives
+    (enqueue-shut (source_of k) (transform_of m) (Bytes piece) a.core.realm.slots (ap (has_source (source_of k)) led.ran.slots ∙ at.link.source)
+    (ap (giver_at (source_of k)) led.ran.slots ∙ at.gives)
     (λ f. not_done (record { going = goes; done = f; goes_on = ap (λ (n : Node). n.core.stopped) is ∙ goes }))) in
     let short : IsShortOf (behind_at k realm.slots) (behind_at k a.core.realm.slots) =
     short_as (behind_at k realm.slots) (then_told (behind_at k a.core.realm.slots) (enters_in shape k c)) _ (nothing-follows (behind_at k a.core.realm.slots) (enters_in shape k c) shut)
@@ -254,7 +255,7 @@ pub stages-count : (shape : Shape) (past : List Entry) (a : Node) → Led shape 
 stages-count shape past a led = sym (length-map a.core.stages.items (λ w. w.stage)) ∙ ap length led.is_of.stages
 
 job-brings : (shape : Shape) (past : List Entry) (a : Node) → Led shape past a → JobBrings (count_in shape) past
-job-brings shape past a led = each_end_was_flushed shape.origin shape.target (count_in shape) past (subst (IsChain shape.origin shape.target (count_in shape)) led.ran.slots led.ran.wired)
+job-brings shape past a led = each_end_was_flushed shape.origin shape.target (count_in shape) past led.ran.wired
 
 -- a job brings nothing but an end that comes anyway
 brought : (shape : Shape) (past : List Entry) (a : Node) → Led shape past a → (k : ℕ) → k ≤ count_in shape
@@ -280,26 +281,30 @@ brought shape past a led k l = by-link k l
     by-link zero l = ap (λ q. then_told (in_bytes q) (coming a 0)) (as-past 0 ∙ brings.source)
     by-link (suc k) l = by-half k l (brings.half k l)
 
+-- what lies behind each link after one job, and what it brings
+abbrev JobKeeps : Shape → Node → Type 0
+JobKeeps shape a =
+    (k : ℕ) → k ≤ count_in shape
+    → IsShortOf (behind_at k (after_job a.core.realm.slots)) (then_told (behind_at k a.core.realm.slots) (next_enters k (next_job a.core.realm.slots.promises)))
+
 -- nothing is brought to the source
-job-source : (shape : Shape) (past : List Entry) (a : Node) → Led shape past a
-    → KeepsBehind shape.origin shape.target (count_in shape) a.core.realm.slots (after_job a.core.realm.slots) (λ k. next_enters k (next_job a.core.realm.slots.promises))
+job-source : (shape : Shape) (past : List Entry) (a : Node) → Led shape past a → JobKeeps shape a
     → IsShortOf (behind_at 0 (after_job a.core.realm.slots)) (behind_at 0 a.core.realm.slots)
 job-source shape past a led keeps =
     let brings = job-brings shape past a led in
     let none : next_enters 0 (next_job a.core.realm.slots.promises) ≡ silence = ap (λ (q : Slots). next_enters 0 (next_job q.promises)) led.ran.slots ∙ brings.source in
     short_as (behind_at 0 (after_job a.core.realm.slots)) (then_told (behind_at 0 a.core.realm.slots) (next_enters 0 (next_job a.core.realm.slots.promises))) _
-    (ap (then_told (behind_at 0 a.core.realm.slots)) none ∙ then_empty (behind_at 0 a.core.realm.slots)) (keeps.short 0 (omega arith))
+    (ap (then_told (behind_at 0 a.core.realm.slots)) none ∙ then_empty (behind_at 0 a.core.realm.slots)) (keeps 0 (omega arith))
 
 -- what lies on each link after one job
-job-short : (shape : Shape) (past : List Entry) (a : Node) → Led shape past a
-    → KeepsBehind shape.origin shape.target (count_in shape) a.core.realm.slots (after_job a.core.realm.slots) (λ k. next_enters k (next_job a.core.realm.slots.promises)) → (k : ℕ) → k ≤ count_in shape
+job-short : (shape : Shape) (past : List Entry) (a : Node) → Led shape past a → JobKeeps shape a → (k : ℕ) → k ≤ count_in shape
     → IsShortOf (then_told (in_bytes (behind_at k (after_job a.core.realm.slots))) (coming a k)) (then_told (in_bytes (behind_at k a.core.realm.slots)) (coming a k))
 job-short shape past a led keeps k l =
     let now : Told Value = behind_at k (after_job a.core.realm.slots) in
     let before : Told Value = behind_at k a.core.realm.slots in
     let enters : Told Value = next_enters k (next_job a.core.realm.slots.promises) in
     short_as (then_told (in_bytes now) (coming a k)) (then_told (in_bytes before) (then_told (in_bytes enters) (coming a k))) (then_told (in_bytes before) (coming a k))
-    (ap (then_told (in_bytes before)) (brought shape past a led k l)) (short-behind now before enters (coming a k) (keeps.short k l))
+    (ap (then_told (in_bytes before)) (brought shape past a led k l)) (short-behind now before enters (coming a k) (keeps k l))
 
 -- jobs that were performed, before the realm stops
 record JobsGo (shape : Shape) (past : List Entry) (a : Node) (realm : SeenRealm) : Type 0 where
@@ -330,7 +335,7 @@ jobs-go zero shape past a realm goes led e young = record {
 }
 jobs-go (suc n) shape past a realm goes led e young =
     let mid : SeenRealm = record { slots = after_job a.core.realm.slots; prepared = a.core.realm.prepared } in
-    let keeps = each_job_keeps_chain shape.origin shape.target (count_in shape) a.core.realm.slots led.ran.wired in
+    let keeps : JobKeeps shape a = job-keeps shape.origin shape.target (count_in shape) a.core.realm.slots (run past empty) led.ran.slots led.ran.wired in
     let older : mid.slots.age ≤ realm.slots.age = run-older (jobs_in_a_row n) mid.slots realm.slots e in
     let first : Led shape (past ++ Worked ∷ []) (with_realm mid a) =
     longer shape past Worked a mid led refl (omega (arith, older, young)) (goes-spent a (mid.slots.age ≡ oldest) goes) tt tt tt (λ id f. cc) (λ id i f. cc) in
@@ -399,7 +404,7 @@ heard-short : (shape : Shape) (past : List Entry) (a : Node) (realm : SeenRealm)
 heard-short shape past a realm o led first slots k l =
     subst (λ q. IsShortOf (then_told (next_heard shape.origin shape.target (count_in shape) k o) (behind_at k q)) (behind_at k a.core.realm.slots)) (sym slots)
     (subst (λ q. IsShortOf (then_told (next_heard shape.origin shape.target (count_in shape) k q) (behind_at k (after_event a.core.realm.slots))) (behind_at k a.core.realm.slots)) first
-    ((each_event_keeps_chain shape.origin shape.target (count_in shape) a.core.realm.slots led.ran.wired).short k l))
+    (event-keeps shape.origin shape.target (count_in shape) a.core.realm.slots (run past empty) led.ran.slots led.ran.wired k l))
 
 same_some : {A : Type 0} (x y : A) → Some x ≡ Some y → x ≡ y
 same_some x y e = grind arith

@@ -1,5 +1,5 @@
 -- A node of which nothing failed (`each_sound_node_is_whole`).
-use Rattle.std.proofs.Common.{◌≡◌, ◌≢◌, ℕ, zero, suc, ◌+◌, ◌≤◌, List, [], ◌∷◌, length, map, Option, refl, sym, ap, subst, ◌∙◌, arith}
+use Rattle.std.proofs.Common.{◌≡◌, ◌≢◌, ℕ, zero, suc, ◌+◌, ◌≤◌, false, List, [], ◌∷◌, length, map, Option, None, refl, sym, ap, subst, ◌∙◌, arith}
 use Rattle.ws_flow.specs.declared.plan.Ending.TheVariants.{Fine, Bad}
 use Rattle.ws_flow.specs.declared.plan.Plan.{Plan}
 use Rattle.ws_flow.specs.Parts.{AtWork, Live, Over, nothing_told, residual}
@@ -11,6 +11,11 @@ use Rattle.ws_flow.proofs.Steps.{behind_at as behind_is}
 use Rattle.ws_flow.proofs.Unlost.{AreWhole, LiesWhole, still-unlost, then-unlost}
 use Rattle.ws_io.specs.Moment.{Moment}
 use Rattle.ws_stages.specs.State.{State}
+use Rattle.ws_steps.specs.declared.readable.ReadableState.TheVariants.{Errored as ReadableErrored}
+use Rattle.ws_steps.specs.Run.{run}
+use Rattle.ws_steps.specs.Slots.{Slots, empty, pipe_at, source_at, writable_at}
+use Rattle.ws_alike.specs.Alike.{Alike}
+use Rattle.ws_end_laws.specs.ends.PassedAll.{is_failing}
 use Rattle.ws_chain_laws.specs.Chain.{source_of, dest_of, link_of, behind_at}
 use Rattle.ws_chain_laws.specs.Sound.{IsSound}
 use Rattle.ws_chain_laws.proofs.Links.{link-at}
@@ -70,24 +75,35 @@ module _ (n : Node) (driven : Driven n) (sound : IsSoundNode n) where
   few : count ≡ count_in driven.shape
   few = sym (length-map (λ (w : State). w.stage) n.core.stages.items) ∙ ap length driven.since.led.is_of.stages
 
+  abbrev s : Slots
+  s = n.core.realm.slots
+
+  -- that to which its past led
+  abbrev z : Slots
+  z = run driven.past empty
+
+  alike : Alike s z
+  alike = driven.since.led.ran.slots
+
   -- no pipe prevents the close, since none did as the realm was opened
-  link-sound : (k : ℕ) → k ≤ count → IsSound (source_of k) (dest_of k) (link_of k) n.core.realm.slots
+  link-sound : (k : ℕ) → k ≤ count → IsSound (source_of k) (dest_of k) (link_of k) z
   link-sound k l =
       let same = few in
       let led = driven.since.led in
       let u = sound.links k l in
       record {
-        source = u.source;
-        sink = u.sink;
-        closes = closes-all driven.shape driven.past n.core.realm.slots led.ran led.is_of.fit k (omega arith);
-        error = u.error;
+        source = subst (λ (q : Slots). (source_at (source_of k) q).state ≢ ReadableErrored) alike u.source;
+        sink = subst (λ (q : Slots). is_failing (writable_at (dest_of k) q).state ≡ false) alike u.sink;
+        closes = subst (λ (q : Slots). (pipe_at (link_of k) q).prevent.close ≡ false) alike (closes-all driven.shape driven.past s led.ran led.is_of.fit k (omega arith));
+        error = subst (λ (q : Slots). (pipe_at (link_of k) q).error ≡ None) alike u.error;
       }
 
-  behind-whole : (k : ℕ) → k ≤ count → (behind_at k n.core.realm.slots).mark ≢ Lost
+  behind-whole : (k : ℕ) → k ≤ count → (behind_at k s).mark ≢ Lost
   behind-whole k l =
       let same = few in
-      let joint = link-at driven.shape.origin driven.shape.target (count_in driven.shape) n.core.realm.slots driven.since.led.ran.wired k (omega arith) in
-      each_sound_link_is_whole (source_of k) (dest_of k) (link_of k) n.core.realm.slots joint.link (link-sound k l)
+      let joint = link-at driven.shape.origin driven.shape.target (count_in driven.shape) z driven.since.led.ran.wired k (omega arith) in
+      let whole = each_sound_link_is_whole (source_of k) (dest_of k) (link_of k) z joint.link (link-sound k l) in
+      subst (λ (q : Slots). (behind_at k q).mark ≢ Lost) (sym alike) whole
 
   coming-whole : (k : ℕ) → (coming n k).mark ≢ Lost
   coming-whole zero = λ e. let same = sound.input in grind arith

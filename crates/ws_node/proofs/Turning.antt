@@ -9,6 +9,7 @@ use Rattle.ws_steps.specs.declared.calls.Call.{Call}
 use Rattle.ws_steps.specs.Queues.{is_empty}
 use Rattle.ws_steps.specs.Run.{Entry, Worked as JobWorked, Heard, is_idle, run}
 use Rattle.ws_steps.specs.Slots.{is_live}
+use Rattle.ws_alike.specs.Alike.{trim}
 use Rattle.ws_chain_laws.specs.Chain.{source_port}
 use Rattle.ws_realm.specs.declared.realm.Why.TheVariants as why
 use Rattle.ws_node.specs.declared.node.Core.{Core}
@@ -20,7 +21,7 @@ use Rattle.ws_node.specs.Edges.{posts_at, PostsBoth, TellsBoth, NoneHeld, NoEnd,
 use Rattle.ws_node.specs.Moves.{Asks, Performed, Refused}
 use Rattle.ws_node.specs.Node.{is_busy, is_over, port_below, received_at, sent_at}
 use Rattle.ws_node.specs.Past.{Driven}
-use Rattle.ws_node.specs.Turns.{GivesHeard, PostsHeard, GoesBy, IsBegun, JobFirst, EventFirst, SameEnds, TookOne, PostedOne, IsQuietEnd, AreQuiet, HasDone, SentAbove, SentBelow, Begun, TurnIs}
+use Rattle.ws_node.specs.Turns.{GivesHeard, PostsHeard, GoesBy, IsBegun, JobFirst, EventFirst, SameEnds, TookOne, PostedOne, IsQuietEnd, AreQuiet, HasDone, SentAbove, SentBelow, Begun, Turned}
 use Rattle.ws_node.specs.Went.{ComesIn, ByInput, ByEdge, GoesOut, ToOutput, ToEdge, Went}
 use Rattle.ws_node.proofs.Giving.{gives-post, gives-then, posts-give, takes-above-give, takes-below-give, tells-give}
 use Rattle.ws_node.proofs.Going.{Stays, went-then}
@@ -162,7 +163,7 @@ kept-below t u (NoneBelow e goes x f is none same) = (ap (λ (n : Node). n.core)
 kept-below t u (TookBelow e goes m x f is took asks) = absurd (cc)
 
 goes-as : (x : Entry) (a u d : Node) → u.core ≡ a.core → GoesBy x u d → GoesBy x a d
-goes-as x a u d e goes = record { rest = goes.rest; slots = goes.slots ∙ ap (λ (c : Core). run (x ∷ goes.rest) c.realm.slots) e }
+goes-as x a u d e goes = record { rest = goes.rest; slots = goes.slots ∙ ap (λ (c : Core). trim (run (x ∷ goes.rest) c.realm.slots)) e }
 
 begun-as : (a u d : Node) → u.core ≡ a.core → IsBegun u d → IsBegun a d
 begun-as a u d e (JobFirst idle goes) =
@@ -249,7 +250,7 @@ module _ (a b : Node) (driven : Driven a) (goes : a.core.stopped ≡ None) (post
     by false false e h k = absurd (cc)
 
   -- how it ended
-  pub posted-only-turn : (over : Bool) → over ≡ is_over b → TurnIs (if over then Ended else Worked) a b
+  pub posted-only-turn : (over : Bool) → over ≡ is_over b → Turned (if over then Ended else Worked) a b
   posted-only-turn true e = (posted-only-goes, sym e)
   posted-only-turn false e = (posted-only-goes, sym e, posted-only-done)
 

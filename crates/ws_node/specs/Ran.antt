@@ -1,4 +1,4 @@
--- A realm to which calls of a node led, and how the pipe of its last link ends.
+-- A realm to which calls of a node led, but for promises that nobody needs, and how the pipe of its last link ends.
 use Rattle.std.specs.Prelude.{◌≡◌, ◌≤◌, ℕ, true, is_some, List, [], Some, All, Contains}
 use Rattle.ws_value.specs.declared.ids.PromiseId.{PromiseId}
 use Rattle.ws_value.specs.declared.value.Outcome.TheVariants.{Fulfilled, Rejected}
@@ -8,6 +8,7 @@ use Rattle.ws_steps.specs.declared.calls.Call.TheVariants.{Enqueue, Finish, Fail
 use Rattle.ws_steps.specs.Promises.{outcome_at, rank_at}
 use Rattle.ws_steps.specs.Run.{Entry, Called, Worked, Heard, run}
 use Rattle.ws_steps.specs.Slots.{Slots, empty}
+use Rattle.ws_alike.specs.Alike.{Alike}
 use Rattle.ws_reason_laws.specs.Origins.{through}
 use Rattle.ws_reason_laws.specs.Reasons.{failures}
 use Rattle.ws_wire_laws.specs.Wire.{IsWired}
@@ -40,11 +41,12 @@ pub record IsOpenedBy (shape : Shape) (past : List Entry) : Type 0 where
   pub is : past ≡ past_of shape.origin shape.target (count_in shape) shape.aborted since
   pub own : All (IsOwnEntry (count_in shape)) since
 
--- all this led to the realm: its links are those of the shape, nothing came through a transform stream, and there is no tee
+-- all this led to slots to which those of the realm are alike: the links are those of the shape, nothing came through a transform stream, and there is
+-- no tee
 pub record HasRun (shape : Shape) (past : List Entry) (s : Slots) : Type 0 where
   pub opened : IsOpenedBy shape past
-  pub slots : s ≡ run past empty
-  pub wired : IsWired (links_in shape) s
+  pub slots : Alike s (run past empty)
+  pub wired : IsWired (links_in shape) (run past empty)
   pub quiet : through past empty ≡ []
   pub teeless : s.tees ≡ []
 

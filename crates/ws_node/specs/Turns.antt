@@ -5,6 +5,7 @@ use Rattle.ws_steps.specs.PortHistory.{posted_in}
 use Rattle.ws_steps.specs.Queues.{is_empty}
 use Rattle.ws_steps.specs.Run.{Entry, Worked as JobWorked, Heard, run, is_idle}
 use Rattle.ws_steps.specs.Slots.{is_live}
+use Rattle.ws_alike.specs.Alike.{Alike, EachKeptIsNeeded}
 use Rattle.ws_realm.specs.Seen.{oldest}
 use Rattle.ws_realm.specs.declared.realm.Why.{Why}
 use Rattle.ws_realm.specs.declared.realm.Why.TheVariants as why
@@ -18,10 +19,10 @@ use Rattle.ws_node.specs.Edges.{takes_more}
 use Rattle.ws_node.specs.Node.{feeds_edge, is_busy, is_edge, is_over, port_below, received_at, sent_at}
 use Rattle.ws_node.specs.Past.{IsGiven}
 
--- a run from the realm of a to that of b that begins so
+-- a run from the realm of a to what that of b is alike to, and that begins so
 pub record GoesBy (x : Entry) (a b : Node) : Type 0 where
   pub rest : List Entry
-  pub slots : b.core.realm.slots ≡ run (x ∷ rest) a.core.realm.slots
+  pub slots : Alike b.core.realm.slots (run (x ∷ rest) a.core.realm.slots)
 
 -- what waited was begun with: the first job was performed, or the host heard of the first event
 pub data IsBegun (a b : Node) : Type 0 where
@@ -82,10 +83,11 @@ EndPostsAt heard stopped None b = b ≡ None
 EndPostsAt heard stopped (Some a) None = ⊥
 EndPostsAt heard stopped (Some a) (Some b) = EndPosts heard stopped a b
 
--- some run leads from the realm of a to that of b, and at the ends is posted and waits what the host heard of in it that their ports posted
+-- some run leads from the realm of a to what that of b is alike to, and at the ends is posted and waits what the host heard of in it that their ports
+-- posted
 pub record PostsHeard (a b : Node) : Type 0 where
   pub entries : List Entry
-  pub slots : b.core.realm.slots ≡ run entries a.core.realm.slots
+  pub slots : Alike b.core.realm.slots (run entries a.core.realm.slots)
   pub above : EndPostsAt (posted_in source_port (taken_events entries a.core.realm.slots)) b.core.stopped a.entrance.above b.entrance.above
   pub below : EndPostsAt (posted_in (port_below a.entrance) (taken_events entries a.core.realm.slots)) b.core.stopped a.exit.below b.exit.below
 
@@ -111,11 +113,23 @@ pub data HasDone (a b : Node) : Type 0 where
   SentBelow : HasSent a.exit.below b.exit.below → HasDone a b
   Begun : IsBegun a b → HasDone a b
 
--- the turn that began at a and ended at b: it worked only where a message was taken or posted, a job performed or an event heard of, and was idle only
--- where no job was queued and no event waited, and there was nothing to be had at its ends
+-- what a turn did that began at a and came to b: it worked only where a message was taken or posted, a job performed or an event heard of, and was idle
+-- only where no job was queued and no event waited, and there was nothing to be had at its ends
+abbrev pub Turned : Turn → Node → Node → Type 0
+Turned Worked a b = (b.core.stopped ≡ None) × (is_over b ≡ false) × (HasDone a b)
+Turned Idle a b = (b.core.stopped ≡ None) × (is_over b ≡ false) × (is_busy a.core ≡ false) × (AreQuiet a b)
+Turned Ended a b = (b.core.stopped ≡ None) × (is_over b ≡ true)
+Turned NoMemory a b = b.core.stopped ≡ Some why.NoMemory
+Turned Spent a b = (b.core.stopped ≡ Some why.Spent) × (b.core.realm.slots.age ≡ oldest)
+
+-- unless its realm has stopped, a node keeps no promise that nobody needs
+abbrev pub KeepsNeeded : Turn → Node → Type 0
+KeepsNeeded Worked b = EachKeptIsNeeded b.core.realm.slots
+KeepsNeeded Idle b = EachKeptIsNeeded b.core.realm.slots
+KeepsNeeded Ended b = EachKeptIsNeeded b.core.realm.slots
+KeepsNeeded NoMemory b = Unit {0}
+KeepsNeeded Spent b = Unit {0}
+
+-- the turn that began at a and ended at b
 abbrev pub TurnIs : Turn → Node → Node → Type 0
-TurnIs Worked a b = (b.core.stopped ≡ None) × (is_over b ≡ false) × (HasDone a b)
-TurnIs Idle a b = (b.core.stopped ≡ None) × (is_over b ≡ false) × (is_busy a.core ≡ false) × (AreQuiet a b)
-TurnIs Ended a b = (b.core.stopped ≡ None) × (is_over b ≡ true)
-TurnIs NoMemory a b = b.core.stopped ≡ Some why.NoMemory
-TurnIs Spent a b = (b.core.stopped ≡ Some why.Spent) × (b.core.realm.slots.age ≡ oldest)
+TurnIs turn a b = Turned turn a b × KeepsNeeded turn b

@@ -124,6 +124,7 @@ impl Node {
     }
 
     /// Does what an event asks; what a port posted waits at its end.
+    #[inline(always)]
     fn hear_of<K: Sink>(&mut self, event: Event, output: &mut K)
         requires { MayHear self.old event }
         ensures { Hears event self.old self.new
@@ -276,6 +277,7 @@ impl Node {
     }
 
     /// What came out of a stage is enqueued behind it, and what was asked has ended as the stage did.
+    #[inline(always)]
     fn put_out(&mut self, id: HostId, stream: StreamId, pushed: Result<Pushed, NoMemory>)
         ensures { PutsOut id stream pushed self.old self.new }
     {

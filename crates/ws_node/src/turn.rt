@@ -4,7 +4,7 @@ ghost use Rattle.ws_io.specs.Moment.{moment};
 ghost use Rattle.ws_node.specs.declared.turn.Turn.TheVariants.{Ended, Worked};
 ghost use Rattle.ws_node.specs.Node.{is_over};
 ghost use Rattle.ws_node.specs.Past.{Driven};
-ghost use Rattle.ws_node.specs.Turns.{PostsHeard, TurnIs};
+ghost use Rattle.ws_node.specs.Turns.{PostsHeard, TurnIs, Turned};
 ghost use Rattle.ws_node.specs.Went.{Went};
 
 use crate::node::Node;
@@ -39,18 +39,20 @@ impl Node {
         }
     }
 
-    /// One turn: the node posts what waits at its edges. Where nothing was posted it takes at most one message from
-    /// each, and performs at most 100,000 jobs and hears of at most 64 events, with what it does at each, until a
-    /// message waits to be posted: so its neighbours can be woken before it goes on. One that has stopped does nothing;
-    /// one that finds no memory tells its neighbours so.
-    pub fn turn<S: Source, K: Sink>(&mut self, alloc: Global, input: &mut S, output: &mut K) -> Turn
+    /// What is done in a turn.
+    fn take_turn<S: Source, K: Sink>(
+        &mut self,
+        alloc: Global,
+        input: &mut S,
+        output: &mut K,
+    ) -> Turn
         requires { Driven self.old }
         ensures driven { Driven self.new }
         ensures went { Went self.old self.new
             (moment (S.faults input.old) (S.feed input.old) (K.faults output.old) (K.finished output.old))
             (moment (S.faults input.new) (S.feed input.new) (K.faults output.new) (K.finished output.new))
             (K.got output.old) (K.got output.new) }
-        ensures turn { TurnIs result self.old self.new }
+        ensures turn { Turned result self.old self.new }
         ensures posts { PostsHeard self.old self.new }
     {
         match self.core.stopped {
@@ -84,5 +86,26 @@ impl Node {
                 }
             }
         }
+    }
+    /// One turn: the node posts what waits at its edges. Where nothing was posted it takes at most one message from
+    /// each, and performs at most 100,000 jobs and hears of at most 64 events, with what it does at each, until a
+    /// message waits to be posted: so its neighbours can be woken before it goes on. At the end it forgets the promises
+    /// that nobody needs. One that has stopped does nothing; one that finds no memory tells its neighbours so.
+    pub fn turn<S: Source, K: Sink>(&mut self, alloc: Global, input: &mut S, output: &mut K) -> Turn
+        requires { Driven self.old }
+        ensures driven { Driven self.new }
+        ensures went { Went self.old self.new
+            (moment (S.faults input.old) (S.feed input.old) (K.faults output.old) (K.finished output.old))
+            (moment (S.faults input.new) (S.feed input.new) (K.faults output.new) (K.finished output.new))
+            (K.got output.old) (K.got output.new) }
+        ensures turn { TurnIs result self.old self.new }
+        ensures posts { PostsHeard self.old self.new }
+    {
+        let turn = self.take_turn(alloc, input, output);
+        if self.core.stopped.is_some() {
+            return turn;
+        }
+        self.core.realm.tidy();
+        turn
     }
 }

@@ -1,5 +1,6 @@
 //! The node of a run on one thread.
 ghost use Rattle.std.specs.Prelude.{◌≡◌, ◌<◌, ◌^◌, IfOk};
+ghost use Rattle.ws_alike.specs.Alike.{kept};
 ghost use Rattle.ws_io.specs.Moment.{moment};
 ghost use Rattle.ws_node.specs.Ends.{EndsAs};
 ghost use Rattle.ws_node.specs.Opening.{IsAccepted};
@@ -67,5 +68,12 @@ impl Whole {
         ensures alone { IsAlone self.now }
     {
         self.node.status()
+    }
+
+    /// How many promises its realm keeps.
+    pub fn kept(&self) -> u64
+        ensures { result ≡ kept self.now.core.realm.slots }
+    {
+        self.node.core.realm.kept()
     }
 }
