@@ -8,7 +8,7 @@ ghost use Rattle.ws_runner.specs.Place.{Moves};
 
 use crate::chain::Chain;
 use crate::place::Place;
-use crate::wake::{Bells, pause};
+use crate::wake::{Bells, Waits};
 use crossbeam_utils::sync::Parker;
 use std::alloc::Global;
 use std::sync::{Wait, WaitMethods};
@@ -182,7 +182,7 @@ pub fn drive_rest<R: Wait, S: Source, K: Sink, F: Fn(u32, u64)>(
         head: false,
         tail: false,
     };
-    let mut looks = 0u32;
+    let mut waits = Waits::new();
     let mut number = 0u64;
     for _ in rt.forever() {
         number = number.saturating_add(1);
@@ -190,8 +190,8 @@ pub fn drive_rest<R: Wait, S: Source, K: Sink, F: Fn(u32, u64)>(
         let middle = turn_places(alloc, places, number, bells, enter);
         let last = turn_tail(alloc, &mut chain.tail, &mut over.tail, output, bells);
         match first.and(middle).and(last) {
-            Round::Moved => looks = 0,
-            Round::Still => pause(rt, parker, &mut looks),
+            Round::Moved => waits.end(),
+            Round::Still => waits.pause(rt, parker),
             Round::Over => {
                 if let Some(status) = chain.tail.status() {
                     return status;

@@ -103,20 +103,61 @@ impl Bells {
 /// How often a thread looks again before it sleeps.
 const LOOKS: u32 = 100;
 
-/// How often it pauses between two looks: all of them take about as long as it takes to wake a thread that sleeps.
+/// How often it pauses between two looks: all of them take some 60 microseconds, about as long as a thread that sleeps
+/// is woken for.
 const PAUSES: u32 = 10;
 
-/// After a turn that found nothing to do: the next one comes soon for a while, since a neighbour mostly answers sooner
-/// than a thread is woken. Then the thread sleeps until it is woken. It never yields its processor: others who are busy
-/// would have it for longer than that.
-pub fn pause<R: Wait>(rt: &R, parker: &Parker, looks: &mut u32) {
-    if *looks < LOOKS {
-        *looks += 1;
-        for _ in 0..PAUSES {
-            spin_loop();
+/// After so many waits in a row that ended asleep a thread mostly sleeps at once.
+const FEW: u32 = 3;
+
+/// One wait of so many has looks even then: whether a neighbour has a processor of its own again shows in no other way.
+const SELDOM: u32 = 16;
+
+/// How a thread waits that finds nothing to do.
+#[derive(Drop)]
+pub struct Waits {
+    /// How often it has looked again in this wait.
+    looks: u32,
+    /// How many waits in a row ended asleep.
+    asleep: u32,
+}
+
+impl Waits {
+    pub fn new() -> Waits {
+        Waits {
+            looks: 0,
+            asleep: 0,
         }
-    } else {
-        *looks = 0;
-        parker.park(rt);
+    }
+
+    /// After a turn that did something.
+    pub fn end(&mut self) {
+        if self.looks > 0 {
+            self.asleep = 0;
+        }
+        self.looks = 0;
+    }
+
+    /// Whether this wait has looks, and has some left.
+    fn has_looks(&self) -> bool {
+        let looks = self.asleep < FEW || self.asleep % SELDOM == 0;
+        looks && self.looks < LOOKS
+    }
+
+    /// After a turn that found nothing to do: the next one comes soon for a while, since a neighbour mostly answers
+    /// sooner than a thread is woken. Then the thread sleeps until it is woken. Where neighbours share a processor looks
+    /// only keep them from it, so a thread that slept some waits in a row has few. It never yields its processor:
+    /// others who are busy would have it for longer than that.
+    pub fn pause<R: Wait>(&mut self, rt: &R, parker: &Parker) {
+        if self.has_looks() {
+            self.looks = self.looks.saturating_add(1);
+            for _ in 0..PAUSES {
+                spin_loop();
+            }
+        } else {
+            self.looks = 0;
+            self.asleep = self.asleep.wrapping_add(1);
+            parker.park(rt);
+        }
     }
 }

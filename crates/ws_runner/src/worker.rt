@@ -5,7 +5,7 @@ ghost use Rattle.ws_node.specs.Nodes.{Each, MiddleGoes};
 ghost use Rattle.ws_runner.specs.Place.{ArePlacesOf, IsPlaceOf};
 
 use crate::place::{HandsBack, Place};
-use crate::wake::{Bells, pause};
+use crate::wake::{Bells, Waits};
 use crossbeam_utils::sync::Parker;
 use std::alloc::Global;
 use std::snapshot::Snapshot;
@@ -35,7 +35,7 @@ impl Worker {
         ensures { MiddleGoes node result }
     {
         let mut node = node;
-        let mut looks = 0u32;
+        let mut waits = Waits::new();
         let mut turn = 0u64;
         for _ in rt.forever() {
             turn = turn.saturating_add(1);
@@ -43,14 +43,14 @@ impl Worker {
             let before = node.posted();
             match node.turn(alloc) {
                 Turn::Worked => {
-                    looks = 0;
+                    waits.end();
                     bells.wake_after(self.number, false, before, node.posted());
                 }
                 Turn::Ended | Turn::NoMemory => {
                     bells.wake_after(self.number, true, before, node.posted());
                     return node;
                 }
-                Turn::Idle | Turn::Spent => pause(rt, &self.parker, &mut looks),
+                Turn::Idle | Turn::Spent => waits.pause(rt, &self.parker),
             }
         }
         unreachable!()
