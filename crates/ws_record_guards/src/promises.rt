@@ -1,13 +1,22 @@
 //! Promises.
-ghost use Rattle.std.specs.Prelude.{◌≡◌};
+ghost use Rattle.std.specs.Prelude.{◌≡◌, Some, IsSome};
 ghost use Rattle.std.specs.Option.{is_some};
-ghost use Rattle.ws_promise.specs.Seen.{HasJobRoom};
+ghost use Rattle.ws_promise.specs.Seen.{HasJobRoom, HasPromiseRoom};
 ghost use Rattle.ws_steps.specs.Promises as table;
 ghost use Rattle.ws_steps.specs.declared.promises.Reaction.TheVariants as reaction;
 
 use ws_promise::Promises;
 use ws_steps::Step;
-use ws_value::{Plain, PromiseId};
+use ws_value::{Outcome, Plain, PromiseId};
+
+/// Makes a pending promise.
+pub fn fresh(promises: &mut Promises) -> PromiseId
+    requires { HasPromiseRoom 1 promises.old }
+    ensures id { result ≡ table.next_id promises.old.table }
+    ensures table { promises.new ≡ record promises.old { table = table.fresh promises.old.table } }
+{
+    promises.fresh()
+}
 
 /// Has `step` performed once `p` settles.
 pub fn react(promises: &mut Promises, p: PromiseId, step: Step, derived: Option<PromiseId>)
@@ -38,4 +47,12 @@ pub fn is_live(promises: &Promises, p: PromiseId) -> bool
     ensures { result ≡ is_some (table.outcome_at promises.now.table p) }
 {
     promises.is_live(p)
+}
+
+/// The state of a promise that there is, with its result.
+pub fn outcome(promises: &Promises, p: PromiseId) -> &Outcome
+    requires { IsSome (table.outcome_at promises.now.table p) }
+    ensures { table.outcome_at promises.now.table p ≡ Some result.now }
+{
+    promises.outcome(p)
 }

@@ -1,9 +1,10 @@
-//! Queues with sizes, and queues of bytes.
-ghost use Rattle.std.specs.Prelude.{◌≡◌, ◌≤◌, ◌+◌, ◌-ℤ◌, pos, [], length};
+//! Queues with sizes, queues of bytes, and the rings in which they lie.
+ghost use Rattle.std.specs.Prelude.{◌≡◌, ◌≤◌, ◌<◌, ◌+◌, ◌-ℤ◌, ◌∷◌, ◌++◌, pos, [], length};
 ghost use Rattle.ws_queue.specs.Seen.{first_pair, written};
 ghost use Rattle.ws_steps.specs.Queues as queues;
 
 use ws_queue::{ByteQueue, SizedQueue};
+use ws_ring::Ring;
 use ws_value::Room;
 
 /// Takes the first entry, with its size.
@@ -36,4 +37,14 @@ pub fn take_into(queue: &mut ByteQueue, room: &mut Room, place: usize, n: usize)
     ensures rest { queue.new ≡ record queue.old { entries = queues.after_bytes n queue.old.entries } }
 {
     queue.take_into(room, place, n);
+}
+
+/// Puts an item at the end of a ring.
+pub fn push_back<T: Drop>(ring: &mut Ring<T>, item: T)
+    requires { length ring.old.items < ring.old.capacity }
+    ensures items { ring.new.items ≡ ring.old.items ++ item ∷ [] }
+    ensures len { length ring.new.items ≡ length ring.old.items + 1 }
+    ensures capacity { ring.new.capacity ≡ ring.old.capacity }
+{
+    ring.push_back_reserved(item);
 }
