@@ -9,6 +9,8 @@ mod calls;
 #[cfg(test)]
 mod held;
 #[cfg(test)]
+mod kept;
+#[cfg(test)]
 mod memory;
 #[cfg(test)]
 mod orders;
