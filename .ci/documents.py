@@ -3,29 +3,47 @@ import pathlib
 import re
 import subprocess
 import tempfile
+from typing import NamedTuple
 
 from program import PROGRAM, ROOT, SECONDS
 
 BLOCK = re.compile(r"^```(sh|toml)\n(.*?)^```$", re.MULTILINE | re.DOTALL)
 
 
+# How a line of a document ends that is printed on standard error.
+OF_ERROR = re.compile(r" +# on standard error$")
+
+
+class Printed(NamedTuple):
+    """What a command prints on standard output and on standard error."""
+
+    output: str
+    error: str
+
+    def __str__(self):
+        return self.output + "".join(f"{line}  # on standard error\n" for line in self.error.splitlines())
+
+
 def examples_of(block):
     """The commands of a block, each with what it is to print."""
     parts = re.split(r"^\$ (.*)\n", block, flags=re.MULTILINE)[1:]
-    return zip(parts[::2], parts[1::2])
+    for command, text in zip(parts[::2], parts[1::2]):
+        lines = text.splitlines(keepends=True)
+        told = [line for line in lines if OF_ERROR.search(line)]
+        yield command, Printed("".join(line for line in lines if line not in told), "".join(OF_ERROR.sub("", line) for line in told))
 
 
 def prints(command, folder):
-    """What a command prints in this folder, on standard output and standard error."""
+    """What a command prints in this folder."""
     done = subprocess.run(
         ["sh", "-c", command],
         cwd=folder,
         stdin=subprocess.DEVNULL,
         stdout=subprocess.PIPE,
-        stderr=subprocess.STDOUT,
+        stderr=subprocess.PIPE,
         timeout=SECONDS,
     )
-    return done.stdout.decode("utf-8", "replace")
+    return Printed(*(text.decode("utf-8", "replace") for text in (done.stdout, done.stderr)))
 
 
 def outcomes(document):

@@ -1,9 +1,9 @@
 #!/usr/bin/env python3
 """Runs the examples of README.md, docs/ and examples/ and the cases of cases/ with the program that is built.
 
-In a document's block of `sh`, a line that begins with `$ ` is a command, and the lines below it are what it prints, on
-standard output and standard error. A block of `toml` is the file plan.toml for the commands below it. cases/README.md
-tells of the cases. The program is the one that STREAMS of the environment names, or else that which the gate built."""
+In a document's block of `sh`, a line that begins with `$ ` is a command, and the lines below it are what it prints: on
+standard error those that end with `# on standard error`, on standard output the others. The two are compared apart. A block
+of `toml` is the file plan.toml for the commands below it. cases/README.md tells of the cases. The program is the one that STREAMS of the environment names, or else that which the gate built."""
 import os
 import subprocess
 import sys
