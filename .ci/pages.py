@@ -1,5 +1,6 @@
 #!/usr/bin/env python3
-"""Writes the pages of docs/ that are made of the sources: LAWS.md, CRATES.md, crates.svg, and the law column of MODEL.md.
+"""Writes the pages of docs/ that are made of the sources: LAWS.md, LAW-STATEMENTS.txt, CRATES.md, crates.svg, and the law column of
+MODEL.md.
 
 A law's comment begins with a sentence that stands alone, and ends with a tag, a paragraph 'Of: ..' that names what the law speaks of: the
 record under which it stands in LAWS.md, and further records and operations, by the names that the tables of MODEL.md have for them.
@@ -10,16 +11,17 @@ import sys
 
 sys.dont_write_bytecode = True
 
-from page import crates_page, laws_page, model, picture
+from page import crates_page, laws_page, model, picture, statements
 from page.sources import ROOT, read_crates, read_laws
 
 DOCS = ROOT / "docs"
 
 
-def pages_of(crates, laws, table):
+def pages_of(crates, laws, table, said):
     """Each page that is written, with its text."""
     return {
         DOCS / "LAWS.md": laws_page.text(laws, table),
+        DOCS / "LAW-STATEMENTS.txt": said.text(),
         DOCS / "MODEL.md": table.text(),
         DOCS / "CRATES.md": crates_page.text(crates),
         DOCS / "crates.svg": picture.text(crates),
@@ -37,13 +39,14 @@ def main(words):
     crates = read_crates()
     laws = read_laws(crates)
     table = model.Model(DOCS / "MODEL.md", laws)
-    faults = [fault for part in [*laws, *crates, table] for fault in part.faults()]
+    said = statements.Statements(crates, laws)
+    faults = [fault for part in [*laws, *crates, table, said] for fault in part.faults()]
     if words not in ([], ["--check"]):
         faults = ["usage: pages.py [--check]"]
     elif words and not faults:
-        faults = table.empty_cells() or list(old(pages_of(crates, laws, table)))
+        faults = table.empty_cells() or list(old(pages_of(crates, laws, table, said)))
     elif not faults:
-        for path, text in pages_of(crates, laws, table).items():
+        for path, text in pages_of(crates, laws, table, said).items():
             path.write_text(text)
     for fault in faults:
         print(f"pages: {fault}", file=sys.stderr)

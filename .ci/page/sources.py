@@ -39,13 +39,14 @@ class Crate:
             yield f"crates.txt: no heading, a comment of one line, over {self.name}"
 
 
-@dataclasses.dataclass
+@dataclasses.dataclass(eq=False)
 class Law:
-    """A law: the function that has it as its contract, its crate, where it stands, and its comment."""
+    """A law: the function that has it as its contract, its crate, where it stands, that contract, and its comment."""
 
     name: str
     crate: str
     file: pathlib.Path
+    contract: str
     sentence: str
     rest: list
     names: list
@@ -91,7 +92,7 @@ def law_at(lines, i, crate, file):
     if parts and parts[-1].startswith(TAG):
         names = [name.strip() for name in parts.pop()[len(TAG):].rstrip(".").split(", ") if name.strip()]
     sentence, rest = sentence_of(parts)
-    return Law(found.group(1), crate, file, sentence, rest, names)
+    return Law(found.group(1), crate, file, "\n".join(lines[i:end]), sentence, rest, names)
 
 
 def read_laws(crates):
