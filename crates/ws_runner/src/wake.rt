@@ -103,8 +103,8 @@ impl Bells {
 /// How often a thread looks again before it sleeps.
 const LOOKS: u32 = 100;
 
-/// How often it pauses between two looks: all of them take some 60 microseconds, about as long as a thread that sleeps
-/// is woken for.
+/// How often it pauses between two looks. With these and the turns between them all looks take some tens of
+/// microseconds, by how long the processor pauses.
 const PAUSES: u32 = 10;
 
 /// After so many waits in a row that ended asleep a thread mostly sleeps at once.
