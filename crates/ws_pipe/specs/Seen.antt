@@ -5,15 +5,21 @@ use Rattle.ws_value.specs.declared.ids.PromiseId.{PromiseId}
 use Rattle.ws_value.specs.declared.value.Plain.{Plain}
 use Rattle.ws_value.specs.declared.value.Value.{Value}
 use Rattle.ws_promise.specs.Seen.{Seen, SeenAgenda, out_of, HasPromiseRoom, HasJobRoom}
-use Rattle.ws_steps.specs.declared.effects.Effect.TheVariants.{Readable as OnReadable, Writable as OnWritable}
+use Rattle.ws_steps.specs.declared.effects.Effect.TheVariants.{Readable as OnReadable, Writable as OnWritable, Pipe as OnPipe}
 use Rattle.ws_steps.specs.declared.pipes.Action.TheVariants.{AbortDest, CancelSource, CloseDest}
 use Rattle.ws_steps.specs.declared.pipes.Ends.{Ends}
 use Rattle.ws_steps.specs.declared.pipes.PipeOperation.{PipeOperation}
 use Rattle.ws_steps.specs.declared.pipes.PipeOperation.TheVariants.{Look, LookReady, KeepChunk, WriteChunk, GoOn, WriteEnded, Abort}
-use Rattle.ws_steps.specs.declared.readable.ReadableOperation.TheVariants.{Cancel}
-use Rattle.ws_steps.specs.declared.writable.WritableOperation.TheVariants.{ClosePropagating}
+use Rattle.ws_steps.specs.declared.promises.Step.TheVariants.{PipeReady, PipeWrote}
+use Rattle.ws_steps.specs.declared.readable.ReadRequest.TheVariants.{Pipe as PipeRequest}
+use Rattle.ws_steps.specs.declared.readable.ReadableOperation.TheVariants.{Cancel, Read}
+use Rattle.ws_steps.specs.declared.writable.WritableOperation.TheVariants.{ClosePropagating, Write}
 use Rattle.ws_steps.specs.Effects.{type_error}
-use Rattle.ws_steps.specs.Pipes.{Slots, Acts, Signal, act_with, shutdown, unless, read_or_wait}
+use Rattle.ws_steps.specs.Pipes.{Slots, Acts, Signal, act_with, causing, reacts, shutdown, unless, read_or_wait}
+use Rattle.ws_pipe.specs.declared.direct.PipeLook.{PipeLook}
+use Rattle.ws_pipe.specs.declared.direct.PipeLook.TheVariants.{GoOn as GoesOn, Ready as IsReady, WriteEnded as HasWritten}
+use Rattle.ws_pipe.specs.declared.direct.PipeNext.{PipeNext}
+use Rattle.ws_pipe.specs.declared.direct.PipeNext.TheVariants.{Nothing as NothingNext, Read as ReadNext, Wait as WaitNext}
 use Rattle.ws_steps.specs.Writable.{is_closed}
 use Rattle.ws_steps.specs.Places.{own_pipe, promises_alone, jobs_alone}
 
@@ -102,3 +108,25 @@ aborts_by pipes (Some r) = 0
 -- how many pipes a trigger aborts
 abbrev pub aborts_of : Signal → ℕ
 aborts_of x = aborts_by x.pipes x.reason
+
+-- what a pipe causes when it looks at its ends, besides the way to an end: a read, or a reaction to the ready promise of the writer
+abbrev pub going : PipeId → PipeNext → Acts → Acts
+going me NothingNext a = a
+going me (ReadNext source) a = causing (OnReadable source (Read (PipeRequest me)) ∷ []) a
+going me (WaitNext ready) a = causing (reacts ready (PipeReady me) ∷ []) a
+
+abbrev pub is_next : PipeNext → Bool
+is_next NothingNext = false
+is_next (ReadNext source) = true
+is_next (WaitNext ready) = true
+
+-- a chunk is written, with this promise, where it is
+abbrev pub writing : PipeId → Option (Value × PromiseId) → Acts → Acts
+writing me None a = a
+writing me (Some (v, p)) a = causing (OnWritable a.slots.dest (Write v p) ∷ reacts p (PipeWrote me) ∷ OnPipe me GoOn ∷ []) a
+
+-- the operation in which a pipe looks so
+abbrev pub look_of : PipeLook → PipeOperation
+look_of GoesOn = GoOn
+look_of IsReady = LookReady
+look_of HasWritten = WriteEnded

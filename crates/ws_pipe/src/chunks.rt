@@ -36,7 +36,7 @@ impl Pipe {
     }
 
     /// One write more is unsettled.
-    fn add_write(&mut self)
+    pub(crate) fn add_write(&mut self)
         requires { self.old.unsettled + 1 < 2 ^ 128 }
         ensures { self.new ≡ record self.old { unsettled = self.old.unsettled + 1 } }
     {
@@ -80,7 +80,7 @@ impl Pipe {
     }
 
     /// Takes the chunk that is held. No read is under way then.
-    fn take_held(&mut self) -> Option<Value>
+    pub(crate) fn take_held(&mut self) -> Option<Value>
         ensures chunk { result ≡ self.old.held }
         ensures slots { self.new ≡ taken self.old self.old.held }
     {
@@ -104,7 +104,7 @@ impl Pipe {
         }
     }
 
-    fn remove_write(&mut self)
+    pub(crate) fn remove_write(&mut self)
         ensures { self.new ≡ record self.old { unsettled = self.old.unsettled - 1 } }
     {
         self.unsettled = self.unsettled.saturating_sub(1);

@@ -4,6 +4,7 @@
 
 mod actions;
 mod chunks;
+mod direct;
 mod ends;
 mod finish;
 mod look;
@@ -13,6 +14,7 @@ mod pipe;
 mod shutdown;
 mod signal;
 
+pub use direct::{PipeLook, PipeNext};
 pub use ends::PipeEnds;
 pub use operations::looks_at_ends;
 pub use pipe::Pipe;

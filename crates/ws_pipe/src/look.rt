@@ -129,7 +129,7 @@ impl Pipe {
         }
     }
 
-    fn wait_no_longer(&mut self)
+    pub(crate) fn wait_no_longer(&mut self)
         ensures { self.new ≡ record self.old { waits = false } }
     {
         self.waits = false;

@@ -3,6 +3,7 @@
 #![tactic(auto)]
 
 mod controller;
+mod direct;
 mod look;
 mod named;
 mod operations;

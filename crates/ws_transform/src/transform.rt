@@ -66,4 +66,28 @@ impl Transform {
     {
         self.readable
     }
+
+    /// `[[backpressure]]`.
+    #[inline(always)]
+    pub fn has_backpressure(&self) -> bool
+        ensures { result ≡ self.now.backpressure }
+    {
+        self.backpressure
+    }
+
+    /// `[[backpressureChangePromise]]`.
+    #[inline(always)]
+    pub fn change(&self) -> PromiseId
+        ensures { result ≡ self.now.change }
+    {
+        self.change
+    }
+
+    /// Whose transform algorithm it performs.
+    #[inline(always)]
+    pub fn kind(&self) -> Kind
+        ensures { result ≡ self.now.kind }
+    {
+        self.kind
+    }
 }

@@ -1,5 +1,7 @@
 -- What is seen of the record of a writable stream.
 use Rattle.std.specs.Prelude.{ℕ, ◌+◌, ◌-◌, ◌≤◌, Bool, true, false, ◌&&◌, nat_le, Option, Some, None, length}
+use Rattle.ws_value.specs.declared.ids.StreamId.{StreamId}
+use Rattle.ws_value.specs.declared.value.Value.{Value}
 use Rattle.ws_promise.specs.Seen.{Seen, SeenAgenda, out_of, HasPromiseRoom, HasEventRoom}
 use Rattle.ws_queue.specs.Seen.{Lists}
 use Rattle.ws_steps.specs.declared.writable.WritableOperation.{WritableOperation}
@@ -7,7 +9,9 @@ use Rattle.ws_steps.specs.declared.writable.WritableOperation.TheVariants.{Write
 use Rattle.ws_steps.specs.declared.writable.WriteRecord.{WriteRecord}
 use Rattle.ws_steps.specs.declared.writable.WriteRecord.TheVariants.{Chunk, InFlight, CloseMark}
 use Rattle.ws_steps.specs.Places.{own_writable, promises_alone, events_alone, queued_alone, requests_alone}
-use Rattle.ws_steps.specs.Writable.{Slots, Acts}
+use Rattle.ws_steps.specs.declared.effects.Effect.TheVariants.{WriteAlgorithm}
+use Rattle.ws_steps.specs.declared.transform.Taker.{Taker}
+use Rattle.ws_steps.specs.Writable.{Slots, Acts, causing, taken_by}
 
 -- the slots, and the places in memory
 pub record SeenWritable : Type 0 where
@@ -49,3 +53,13 @@ is_chunk None = false
 is_chunk (Some (Chunk v)) = true
 is_chunk (Some InFlight) = false
 is_chunk (Some CloseMark) = false
+
+-- the write algorithm is caused, where it is
+abbrev pub writing_where : Bool → StreamId → Acts → Acts
+writing_where true me a = causing (WriteAlgorithm me) a
+writing_where false me a = a
+
+-- a chunk is handed on, where there is one
+abbrev pub handing : StreamId → Taker → Option Value → Acts → Acts
+handing me taker None a = a
+handing me taker (Some v) a = causing (taken_by me v taker) a

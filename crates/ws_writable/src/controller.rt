@@ -71,7 +71,7 @@ impl Writable {
         }
     }
 
-    fn is_chunk_first(&self) -> bool
+    pub(crate) fn is_chunk_first(&self) -> bool
         ensures { result ≡ is_chunk (first_value self.now.slots.queue) }
     {
         matches!(self.queue.first(), Some(WriteRecord::Chunk(_)))

@@ -4,6 +4,7 @@
 
 mod backpressure;
 mod controller;
+mod direct;
 mod erroring;
 mod look;
 mod named;

@@ -34,7 +34,7 @@ impl Writable {
         }
     }
 
-    fn write_ended(&mut self, p: &mut Promises, outcome: Result<Plain, Plain>)
+    pub(crate) fn write_ended(&mut self, p: &mut Promises, outcome: Result<Plain, Plain>)
         ensures row { (fx : SeenAgenda) → acts_of self.new p.new fx
             ≡ rows.write_ended outcome (acts_of self.old p.old fx) }
         ensures room { self.new.room ≡ self.old.room }
@@ -45,7 +45,7 @@ impl Writable {
         self.write_in_flight = None;
     }
 
-    fn drop_first(&mut self)
+    pub(crate) fn drop_first(&mut self)
         ensures row { (p : Seen) (fx : SeenAgenda) → acts_of self.new p fx
             ≡ rows.without_first (acts_of self.old p fx) }
         ensures room { self.new.room ≡ self.old.room }

@@ -54,7 +54,7 @@ impl Writable {
     }
 
     /// With what a write is rejected at once.
-    fn write_refusal(&self) -> Option<Plain>
+    pub(crate) fn write_refusal(&self) -> Option<Plain>
         ensures { result ≡ rows.write_refusal self.now.slots }
     {
         if self.is_errored() {
@@ -80,7 +80,7 @@ impl Writable {
         self.write_requests.push_back_reserved(promise);
     }
 
-    fn enqueue_chunk(&mut self, chunk: Value)
+    pub(crate) fn enqueue_chunk(&mut self, chunk: Value)
         requires queue_room { HasQueueRoom 1 self.old }
         ensures row { (p : Seen) (fx : SeenAgenda) → acts_of self.new p fx
             ≡ rows.enqueue_chunk chunk (acts_of self.old p fx) }

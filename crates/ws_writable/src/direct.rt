@@ -1,0 +1,135 @@
+//! The way of a chunk, where the write algorithm that is to be performed is told by the result.
+ghost use Rattle.std.specs.Prelude.{◌≡◌, Ok, true, false};
+ghost use Rattle.ws_promise.specs.Seen.{HasEffectRoom, HasPromiseRoom, Seen, SeenAgenda};
+ghost use Rattle.ws_steps.specs.Writable as rows;
+ghost use Rattle.ws_steps.specs.declared.transform.Taker.{Taker};
+ghost use Rattle.ws_value.specs.declared.value.Plain.TheVariants.{Undefined};
+ghost use Rattle.ws_writable.specs.Seen.{HasQueueRoom, HasRequestRoom, acts_of, handing, writing_where};
+
+use crate::Writable;
+use ws_promise::{Agenda, Promises};
+use ws_steps::WriteRecord;
+use ws_value::{Plain, PromiseId, StreamId, Value};
+
+impl Writable {
+    /// WritableStreamDefaultControllerAdvanceQueueIfNeeded: whether the write algorithm is to be performed. What else
+    /// there is to do is done, or caused.
+    #[inline(always)]
+    #[tactic(auto, unfolding(ws_steps::specs::Writable::advance_queue, ws_steps::specs::Writable::process_write))]
+    fn writes(&mut self, me: StreamId, p: &mut Promises, fx: &mut Agenda) -> bool
+        requires effect_room { HasEffectRoom 1 fx.old }
+        ensures row { rows.advance_queue me (acts_of self.old p.old fx.old)
+            ≡ writing_where result me (acts_of self.new p.new fx.new) }
+        ensures quiet { result ≡ true → fx.new ≡ fx.old }
+        ensures room { self.new.room ≡ self.old.room }
+        ensures promise_room { p.new.room ≡ p.old.room }
+        ensures effect_room { fx.new.capacity ≡ fx.old.capacity }
+    {
+        if self.started
+            && self.write_in_flight.is_none()
+            && !self.is_erroring()
+            && self.is_chunk_first()
+        {
+            self.write_in_flight = self.write_requests.pop_front();
+            return true;
+        }
+        self.advance_queue(me, p, fx);
+        false
+    }
+
+    /// The controller's reaction to its write algorithm, where that succeeded: whether it is to be performed again.
+    #[inline(always)]
+    #[tactic(auto, unfolding(ws_steps::specs::Writable::write_settled))]
+    pub fn write_done(&mut self, me: StreamId, p: &mut Promises, fx: &mut Agenda) -> bool
+        requires promise_room { HasPromiseRoom 1 p.old }
+        requires effect_room { HasEffectRoom 1 fx.old }
+        ensures row { rows.write_settled me (Ok Undefined) (acts_of self.old p.old fx.old)
+            ≡ writing_where result me (acts_of self.new p.new fx.new) }
+        ensures quiet { result ≡ true → fx.new ≡ fx.old }
+        ensures room { self.new.room ≡ self.old.room }
+        ensures promise_room { p.new.room ≡ p.old.room }
+        ensures effect_room { fx.new.capacity ≡ fx.old.capacity }
+    {
+        self.write_ended(p, Ok(Plain::Undefined));
+        self.drop_first();
+        self.refresh_backpressure(p);
+        self.writes(me, p, fx)
+    }
+
+    /// WritableStreamDefaultControllerWrite: whether the write algorithm is to be performed.
+    #[inline(always)]
+    #[tactic(auto, unfolding(ws_steps::specs::Writable::controller_write))]
+    fn controller_write_directly(
+        &mut self,
+        me: StreamId,
+        p: &mut Promises,
+        fx: &mut Agenda,
+        chunk: Value,
+    ) -> bool
+        requires queue_room { HasQueueRoom 1 self.old }
+        requires promise_room { HasPromiseRoom 1 p.old }
+        requires effect_room { HasEffectRoom 1 fx.old }
+        ensures row { rows.controller_write me chunk (acts_of self.old p.old fx.old)
+            ≡ writing_where result me (acts_of self.new p.new fx.new) }
+        ensures quiet { result ≡ true → fx.new ≡ fx.old }
+        ensures room { self.new.room ≡ self.old.room }
+        ensures promise_room { p.new.room ≡ p.old.room }
+        ensures effect_room { fx.new.capacity ≡ fx.old.capacity }
+    {
+        self.enqueue_chunk(chunk);
+        self.refresh_backpressure(p);
+        self.writes(me, p, fx)
+    }
+
+    /// WritableStreamDefaultWriterWrite, where the writer has the stream, with the promise that it answers: whether
+    /// the write algorithm is to be performed.
+    #[inline(always)]
+    #[tactic(auto, unfolding(ws_steps::specs::Writable::writer_write))]
+    pub fn write_directly(
+        &mut self,
+        me: StreamId,
+        p: &mut Promises,
+        fx: &mut Agenda,
+        chunk: Value,
+        promise: PromiseId,
+    ) -> bool
+        requires queue_room { HasQueueRoom 1 self.old }
+        requires request_room { HasRequestRoom 1 self.old }
+        requires promise_room { HasPromiseRoom 1 p.old }
+        requires effect_room { HasEffectRoom 1 fx.old }
+        ensures row { rows.writer_write me chunk promise (acts_of self.old p.old fx.old)
+            ≡ writing_where result me (acts_of self.new p.new fx.new) }
+        ensures quiet { result ≡ true → fx.new ≡ fx.old }
+        ensures room { self.new.room ≡ self.old.room }
+        ensures promise_room { p.new.room ≡ p.old.room }
+        ensures effect_room { fx.new.capacity ≡ fx.old.capacity }
+    {
+        match self.write_refusal() {
+            Some(e) => {
+                p.reject(promise, e);
+                false
+            }
+            None => {
+                self.add_write_request(promise);
+                self.controller_write_directly(me, p, fx, chunk)
+            }
+        }
+    }
+
+    /// The chunk at the front of the queue, where one stands there, which is handed on. Its place, with its size, stays.
+    #[inline(always)]
+    #[tactic(auto, unfolding(ws_steps::specs::Writable::hand_on))]
+    pub fn take_chunk(&mut self) -> Option<Value>
+        ensures row { (me : StreamId) (taker : Taker) (p : Seen) (fx : SeenAgenda)
+            → rows.hand_on me taker (acts_of self.old p fx) ≡ handing me taker result (acts_of self.new p fx) }
+        ensures room { self.new.room ≡ self.old.room }
+    {
+        if !self.is_chunk_first() {
+            return None;
+        }
+        match self.queue.take_first(WriteRecord::InFlight) {
+            Some(WriteRecord::Chunk(chunk)) => Some(chunk),
+            _ => None,
+        }
+    }
+}
