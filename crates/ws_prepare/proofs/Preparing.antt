@@ -6,8 +6,8 @@ use Rattle.ws_value.specs.declared.ids.SignalId.{SignalId}
 use Rattle.ws_value.specs.declared.ids.StreamId.{StreamId}
 use Rattle.ws_room_laws.proofs.Rows.{get-other, same-or}
 use Rattle.ws_pipe.specs.Seen.{SeenSignal, HasMemberRoom}
-use Rattle.ws_tables.specs.Room.{HasPlaces, EachHasPlaces, AllCovered, EachHasMembers, AllHaveMembers, places_for, IsPrepared}
-use Rattle.ws_prepare.specs.Preparing.{PlacesStay, IsRoomier, MembersGrow, base_places, IsMade, HasTurns, HasRecords}
+use Rattle.ws_tables.specs.Room.{HasPlaces, EachHasPlaces, AllCovered, EachHasMembers, AllHaveMembers, places_for, IsReady, IsPrepared}
+use Rattle.ws_prepare.specs.Preparing.{PlacesStay, IsRoomier, MembersGrow, base_places, IsMade, HasTurns, HasNotes, HasRecords}
 use Rattle.ws_tables.specs.declared.tables.Tables.{Tables}
 use Rattle.ws_promise.specs.Seen.{Seen, Grows, HasRoom, HasJobRoom, jobs_in, events_in}
 use Rattle.ws_steps.specs.Promises.{Table}
@@ -95,12 +95,12 @@ fewer-room m n p less room =
     let a = room.promises in let b = room.jobs in let d = room.events in
     record { promises = omega (arith, less, a); jobs = omega (arith, less, b); events = omega (arith, less, d) }
 
--- so many places each are enough for whatever is called next
-pub prepared : (t : Tables) (base jobs turns : ℕ) → base ≡ base_places t → jobs ≡ base + t.waiting → turns ≡ jobs + t.waiting
-    → IsMade t → HasTurns turns t → HasRoom base t.promises → HasJobRoom jobs t.promises → HasRecords base t → IsPrepared t
-prepared t base jobs turns is-base is-jobs is-turns made has-turns room job-room records =
+-- so many places each are enough for what the next call or job adds to the records that there are
+pub made-ready : (t : Tables) (base jobs turns : ℕ) → base ≡ base_places t → jobs ≡ base + t.waiting → turns ≡ jobs + t.waiting
+    → IsMade t → HasTurns turns t → HasRoom base t.promises → HasJobRoom jobs t.promises → HasNotes base t → IsReady t
+made-ready t base jobs turns is-base is-jobs is-turns made has-turns room job-room notes =
     let caused = has-turns.caused in let others = has-turns.others in let under-way = has-turns.under_way in
-    let hosts = records.hosts in let grown = records.grown in
+    let hosts = notes.hosts in let grown = notes.grown in
     record {
       promises = fewer-room (places_for 0 8 3 15 t) base t.promises (omega (arith, is-base)) room;
       jobs = omega (arith, is-base, is-jobs, job-room);
@@ -110,15 +110,27 @@ prepared t base jobs turns is-base is-jobs is-turns made has-turns room job-room
       under_way = omega (arith, is-base, is-jobs, is-turns, under-way);
       grown = omega (arith, is-base, grown);
       places = made.places;
-      full = records.full;
+      full = notes.full;
       members = made.members;
-      locks = records.locks;
-      byob_requests = records.byob_requests;
-      streams = records.streams;
-      transforms = records.transforms;
-      tees = records.tees;
-      ports = records.ports;
       copies = made.copies;
-      pipes = records.pipes;
-      signals = records.signals;
     }
+
+-- and with places for the records that a call makes, for whatever is called next
+pub prepared : (t : Tables) → IsReady t → HasRecords t → IsPrepared t
+prepared t ready records = record {
+  ready = ready;
+  locks = records.locks;
+  byob_requests = records.byob_requests;
+  streams = records.streams;
+  transforms = records.transforms;
+  tees = records.tees;
+  ports = records.ports;
+  pipes = records.pipes;
+  signals = records.signals;
+}
+
+-- so many places each are enough for whatever is called next
+pub made-prepared : (t : Tables) (base jobs turns : ℕ) → base ≡ base_places t → jobs ≡ base + t.waiting → turns ≡ jobs + t.waiting
+    → IsMade t → HasTurns turns t → HasRoom base t.promises → HasJobRoom jobs t.promises → HasNotes base t → HasRecords t → IsPrepared t
+made-prepared t base jobs turns is-base is-jobs is-turns made has-turns room job-room notes records =
+    prepared t (made-ready t base jobs turns is-base is-jobs is-turns made has-turns room job-room notes) records

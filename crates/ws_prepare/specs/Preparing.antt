@@ -24,11 +24,14 @@ pub record HasTurns (n : ℕ) (t : Tables) : Type 0 where
   pub others : n ≤ vec_capacity t.others
   pub under_way : n ≤ vec_capacity t.under_way
 
--- there are places for n answers of hosts, to note n streams, and for the other records that a call or job can make
-pub record HasRecords (n : ℕ) (t : Tables) : Type 0 where
+-- there are places for n answers of hosts, to note n streams, and to note a signal
+pub record HasNotes (n : ℕ) (t : Tables) : Type 0 where
   pub hosts : n + length t.hosts.items ≤ t.hosts.capacity
   pub grown : vec_len t.grown + n ≤ vec_capacity t.grown
   pub full : vec_len t.full < vec_capacity t.full
+
+-- and for the records that a call can make
+pub record HasRecords (t : Tables) : Type 0 where
   pub locks : vec_len t.locks + 2 ≤ vec_capacity t.locks
   pub byob_requests : vec_len t.byob_requests < vec_capacity t.byob_requests
   pub streams : vec_len t.streams + 2 ≤ vec_capacity t.streams

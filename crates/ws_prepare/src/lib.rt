@@ -3,4 +3,4 @@
 
 mod memory;
 
-pub use memory::prepare;
+pub use memory::{prepare, prepare_work};

@@ -1,7 +1,7 @@
 //! The taking of memory before a call or a job.
-ghost use Rattle.std.specs.Prelude.{◌≡◌, true, IfSome, OnOk, vec_len};
-ghost use Rattle.ws_tables.specs.Room.{EachHasCopies, EachHasMembers, EachHasPlaces, HaveMembers, IsCopied, IsCovered, IsPrepared, IsResting};
-ghost use Rattle.ws_prepare.specs.Preparing.{HasMembersAt, HasPlacesAt, HasRecords, HasTurns, IsMade, MembersGrow, PlacesStay, StaysBesideAgenda, StaysBesideSignals, StaysBesideStreams, StaysBesideTees, base_places};
+ghost use Rattle.std.specs.Prelude.{◌≡◌, ◌+◌, ◌<◌, ◌^◌, true, IfSome, IsOk, OnOk, vec_len};
+ghost use Rattle.ws_tables.specs.Room.{EachHasCopies, EachHasMembers, EachHasPlaces, HaveMembers, IsCopied, IsCovered, IsPrepared, IsReady, IsResting};
+ghost use Rattle.ws_prepare.specs.Preparing.{HasMembersAt, HasNotes, HasPlacesAt, HasRecords, HasTurns, IsMade, MembersGrow, PlacesStay, StaysBesideAgenda, StaysBesideSignals, StaysBesideStreams, StaysBesideTees, base_places};
 ghost use Rattle.ws_tables.specs.View.{slots_of};
 
 use ws_tables::{LIST_PLACES, Stream, Tables};
@@ -53,16 +53,22 @@ fn has_turns(tables: &Tables, turns: usize) -> bool
         && turns <= tables.under_way.capacity()
 }
 
-/// Whether there are places for `n` hosts' answers, to note `n` streams that grew, and for the other records that
-/// a call or job can make.
+/// Whether there are places for `n` hosts' answers, to note `n` streams that grew, and to note a signal.
 #[inline]
-fn has_records(tables: &Tables, n: usize) -> bool
-    ensures { result ≡ true → HasRecords n tables.now }
+fn has_notes(tables: &Tables, n: usize) -> bool
+    ensures { result ≡ true → HasNotes n tables.now }
 {
     n <= tables.hosts.capacity() - tables.hosts.len()
         && n <= tables.grown.capacity() - tables.grown.len()
         && tables.full.len() < tables.full.capacity()
-        && 2 <= tables.locks.capacity() - tables.locks.len()
+}
+
+/// Whether there are places for the records that a call can make.
+#[inline]
+fn has_records(tables: &Tables) -> bool
+    ensures { result ≡ true → HasRecords tables.now }
+{
+    2 <= tables.locks.capacity() - tables.locks.len()
         && 2 <= tables.streams.capacity() - tables.streams.len()
         && tables.byob_requests.len() < tables.byob_requests.capacity()
         && tables.transforms.len() < tables.transforms.capacity()
@@ -72,15 +78,15 @@ fn has_records(tables: &Tables, n: usize) -> bool
         && tables.signals.len() < tables.signals.capacity()
 }
 
-/// Whether there is all memory that the next call or job can need.
-fn has_all(tables: &Tables) -> bool
+/// Whether there is all memory for what the next call or job adds to the records that there are, where `base` places
+/// serve any list.
+#[inline]
+fn has_places(tables: &Tables, base: usize) -> bool
     requires resting { IsResting tables.now }
-    ensures { result ≡ true → IsPrepared tables.now }
+    requires base { base ≡ base_places tables.now }
+    requires small { base + tables.now.waiting + tables.now.waiting < 2 ^ 64 }
+    ensures { result ≡ true → IsReady tables.now }
 {
-    if tables.waiting > FEW || tables.aborts > FEW || tables.tees.len() > FEW {
-        return false;
-    }
-    let base = (tables.aborts + tables.tees.len()) * PLACES_FOR_EACH + PLACES_FOR_ANY;
     let jobs = base + tables.waiting;
     let turns = jobs + tables.waiting;
     if !is_made(tables) {
@@ -92,7 +98,27 @@ fn has_all(tables: &Tables) -> bool
     if !tables.promises.has_room(base, jobs) {
         return false;
     }
-    has_records(tables, base)
+    has_notes(tables, base)
+}
+
+/// Whether there is all memory for what the next call or job adds to the records that there are. Mostly no signal would
+/// abort a pipe and no tee is there, and then the places are those that any call or job takes.
+#[inline]
+fn is_ready(tables: &Tables) -> bool
+    requires resting { IsResting tables.now }
+    ensures { result ≡ true → IsReady tables.now }
+{
+    if tables.waiting > FEW {
+        return false;
+    }
+    if tables.aborts == 0 && tables.tees.len() == 0 {
+        return has_places(tables, PLACES_FOR_ANY);
+    }
+    if tables.aborts > FEW || tables.tees.len() > FEW {
+        return false;
+    }
+    let base = (tables.aborts + tables.tees.len()) * PLACES_FOR_EACH + PLACES_FOR_ANY;
+    has_places(tables, base)
 }
 
 /// Makes places in each list of the stream of this number, where there is one, and a room for a byte stream that
@@ -247,7 +273,24 @@ pub fn prepare(tables: &mut Tables) -> Result<(), NoMemory>
     ensures slots { slots_of tables.new ≡ slots_of tables.old }
     ensures resting { IsResting tables.new }
 {
-    if has_all(tables) {
+    if is_ready(tables) && has_records(tables) {
+        return Ok(());
+    }
+    take_all(tables)
+}
+
+/// Takes all memory that the next job can need, or the enqueuing of a chunk, unless it was taken for any call: neither
+/// makes a record.
+#[inline]
+pub fn prepare_work(tables: &mut Tables, prepared: bool) -> Result<(), NoMemory>
+    requires resting { IsResting tables.old }
+    requires prepared { prepared ≡ true → IsPrepared tables.old }
+    ensures ok { OnOk result (IsReady tables.new) }
+    ensures slots { slots_of tables.new ≡ slots_of tables.old }
+    ensures resting { IsResting tables.new }
+    ensures prepared { prepared ≡ true → IsOk result }
+{
+    if prepared || is_ready(tables) {
         return Ok(());
     }
     take_all(tables)

@@ -225,8 +225,8 @@ pub record HasRoomForAll (es : List Effect) (t : Tables) : Type 0 where
 abbrev pub places_for : ℕ → ℕ → ℕ → ℕ → Tables → ℕ
 places_for a_wait an_abort a_tee more t = t.waiting * a_wait + t.aborts * an_abort + vec_len t.tees * a_tee + more
 
--- there are places for the next call or job, whichever it is
-pub record IsPrepared (t : Tables) : Type 0 where
+-- there are places for all that the next call or job adds to the records that there are, whichever it is
+pub record IsReady (t : Tables) : Type 0 where
   pub promises : HasRoom (places_for 0 8 3 15 t) t.promises
   pub jobs : HasJobRoom (places_for 1 7 5 11 t) t.promises
   pub hosts : places_for 0 2 2 3 t + length t.hosts.items ≤ t.hosts.capacity
@@ -238,13 +238,17 @@ pub record IsPrepared (t : Tables) : Type 0 where
   pub places : EachHasPlaces t.streams.items
   pub full : vec_len t.full < vec_capacity t.full
   pub members : EachHasMembers 1 t.signals.items
+  pub copies : EachHasCopies 1 t.tees.items
+
+-- and for the records that a call makes: a job makes none, nor does the enqueuing of a chunk
+pub record IsPrepared (t : Tables) : Type 0 where
+  pub ready : IsReady t
   pub locks : vec_len t.locks + 2 ≤ vec_capacity t.locks
   pub byob_requests : vec_len t.byob_requests < vec_capacity t.byob_requests
   pub streams : vec_len t.streams + 2 ≤ vec_capacity t.streams
   pub transforms : vec_len t.transforms < vec_capacity t.transforms
   pub tees : vec_len t.tees < vec_capacity t.tees
   pub ports : vec_len t.ports < vec_capacity t.ports
-  pub copies : EachHasCopies 1 t.tees.items
   pub pipes : vec_len t.pipes < vec_capacity t.pipes
   pub signals : vec_len t.signals < vec_capacity t.signals
 

@@ -1,7 +1,7 @@
 use Rattle.std.proofs.Common.{◌≡◌, ◌∙◌, length, ap, arith}
 use Rattle.std.specs.Prelude.{vec_len}
 use Rattle.ws_tables.specs.declared.tables.Tables.{Tables}
-use Rattle.ws_prepare.proofs.Preparing.{grown-room, prepared}
+use Rattle.ws_prepare.proofs.Preparing.{grown-room, made-prepared}
 use Rattle.ws_prepare.proofs.memory.take_all.Goals as goal
 
 pub returns-clause-ok : goal.returns-clause-ok
@@ -18,7 +18,7 @@ returns-clause-ok c =
     let jobs = c.in-Some-checked_add.ensures in
     let turns = c.in-Some-checked_add-2.ensures in
     let queue = c.in_ok-reserve_jobs.ensures in
-    prepared _ c.in-Some.base c.in-Some-checked_add.jobs c.in-Some-checked_add-2.turns (omega (arith, base, aborts, tees, many)) (omega (arith, jobs, waits)) (omega (arith, turns, waits))
+    made-prepared _ c.in-Some.base c.in-Some-checked_add.jobs c.in-Some-checked_add-2.turns (omega (arith, base, aborts, tees, many)) (omega (arith, jobs, waits)) (omega (arith, turns, waits))
     (record {
       places =
           rw (c.in_ok-reserve-5.ensures.items ∙ (ap (λ (t : Tables). t.streams.items) agenda ∙ (ap (λ (t : Tables). t.streams.items) copies.tables ∙ ap (λ (t : Tables). t.streams.items) signals)))
@@ -33,6 +33,8 @@ returns-clause-ok c =
       hosts = let h = c.in_ok-reserve-2.ensures.ok in omega (arith, h);
       grown = let h = c.in_ok-reserve-11.ensures.ok in omega (arith, h);
       full = let h = c.in_ok-reserve-12.ensures.ok in omega (arith, h);
+    })
+    (record {
       locks = let h = c.in_ok-reserve-4.ensures.ok in omega (arith, h);
       byob_requests = let h = c.in_ok-reserve-3.ensures.ok in omega (arith, h);
       streams = let h = c.in_ok-reserve-5.ensures.ok in omega (arith, h);
