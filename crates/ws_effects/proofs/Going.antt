@@ -1,4 +1,4 @@
--- An effect is performed, and maybe the one that it causes.
+-- An effect is performed, before those that wait.
 use Rattle.std.proofs.Common.{◌≡◌, ◌∙◌, ◌<◌, ◌≤◌, ℕ, List, [], ◌∷◌, ◌++◌, None, refl, sym, ap, subst, arith}
 use Rattle.std.specs.Prelude.{length, reverse, vec_len}
 use Rattle.std.proofs.lemmas.List.{length-reverse}
@@ -17,43 +17,19 @@ use Rattle.ws_steps.specs.declared.transform.Taker.TheVariants.{ToHost}
 use Rattle.ws_steps.specs.declared.transform.TransformOperation.TheVariants.{SinkWrite, SourcePull}
 use Rattle.ws_steps.specs.declared.writable.WritableOperation.TheVariants.{HandOn}
 use Rattle.ws_steps.specs.Places.{measure}
-use Rattle.ws_steps.specs.Slots.{Slots, causes, owner_at}
-use Rattle.ws_steps.specs.Turns.{row, performed}
+use Rattle.ws_steps.specs.Slots.{Slots, owner_at}
+use Rattle.ws_steps.specs.Turns.{row}
 use Rattle.ws_room_laws.proofs.Rows.{measure-fall}
 use Rattle.ws_room_laws.proofs.Turns.{performed_next}
 use Rattle.ws_tables.specs.View.{slots_of}
 use Rattle.ws_tables.specs.Room.{AreEnough, HasRoomForAll, IsKept}
-use Rattle.ws_effects.specs.Performing.{GoesOn, HasRoomFor, Performs, effects_of}
+use Rattle.ws_effects.specs.Performing.{GoesOn, Performs, effects_of}
 use Rattle.ws_tables.specs.declared.tables.Tables.{Tables}
-use Rattle.ws_tables.proofs.Places.{kept_same}
-use Rattle.ws_effects.proofs.Turns.{room-for, next-room, next-turns, put-fits}
+use Rattle.ws_effects.proofs.Turns.{next-room, next-turns, put-fits}
 
 -- one effect is caused
 abbrev causing : Effect → Tables → Tables
 causing e t = record t { caused = record t.caused { effects = e ∷ [] } }
-
-kept-causing : (e : Effect) (t : Tables) → IsKept t → IsKept (causing e t)
-kept-causing e t kept =
-    kept_same t (causing e t) refl (record { streams = refl; grown = refl; waiting = refl; pipes = refl; signals = refl; full = refl; aborts = refl; tees = refl; uncopied = refl }) kept
-
--- what is caused takes no places
-room-causing : (e : Effect) (rest : List Effect) (t : Tables) → HasRoomForAll (e ∷ rest) (causing e t) → HasRoomForAll (e ∷ rest) t
-room-causing e rest t room =
-    record {
-      promises = room.promises;
-      jobs = room.jobs;
-      events = room.events;
-      hosts = room.hosts;
-      caused = room.caused;
-      others = room.others;
-      lists = room.lists;
-      once = room.once;
-      rooms = room.rooms;
-      grown = room.grown;
-      members = room.members;
-      full = room.full;
-      copies = room.copies;
-    }
 
 waiting-first : (rest : List Effect) (t : Tables) → rest ≡ reverse t.others.items → vec_len t.others ≡ length rest
 waiting-first rest t is = t.others.ok.0 ∙ (sym (length-reverse t.others.items) ∙ ap length (sym is))
@@ -78,35 +54,7 @@ goes e t t' room kept did kept' =
       kept = kept';
     }
 
--- an effect is performed that causes this one alone and does nothing else
-module _ (e one : Effect) (t : Tables) (room : HasRoomForAll (e ∷ reverse t.others.items) t) (kept : IsKept t) (is : Performs e t (causing one t)) where
-  room-of : HasRoomForAll (one ∷ reverse t.others.items) t
-  room-of = room-causing one (reverse t.others.items) t (next-room e (reverse t.others.items) t (causing one t) room kept is (kept-causing one t kept))
-
-  pub room-by : HasRoomFor one t
-  room-by = room-for one (reverse t.others.items) t room-of
-
-  pub goes-by : (t' : Tables) → Performs one t t' → IsKept t' → GoesOn e t t'
-  goes-by t' did kept' =
-      let rest : List Effect = reverse t.others.items in
-      let s : Slots = slots_of t in
-      let on = goes one t t' room-of kept did kept' in
-      let same : causes ((row e s).caused ++ rest) (row e s).slots ≡ causes (one ∷ rest) s = ap (λ es. causes (es ++ rest) (row e s).slots) (sym is.caused) ∙ ap (causes (one ∷ rest)) (sym is.slots) in
-      record {
-        slots = on.slots ∙ (ap performed (sym same) ∙ sym (performed_next s e rest));
-        fewer =
-            let falls = measure-fall e rest s in
-            let less = on.fewer in
-            let between = ap (λ d. measure d.slots d.caused) same in
-            omega (arith, falls, less, between);
-        room = on.room;
-        turns = λ n enough. on.turns n (next-turns e rest t (causing one t) n enough kept is (kept-causing one t kept));
-        fits = on.fits;
-        others = on.others;
-        kept = on.kept;
-      }
-
--- such effects
+-- effects that cause another one alone and do nothing else
 
 pub pull-is : (i : StreamId) (t : Tables) (n : TransformId) → t.caused.effects ≡ [] → owner_at i (slots_of t) ≡ HalfOf n
     → Performs (PullAlgorithm i) t (causing (Transform n (SourcePull (React (ReadablePull i) None))) t)

@@ -61,8 +61,7 @@ CanPutFirst t = vec_len t.others + length t.caused.effects ≤ vec_capacity t.ot
 abbrev pub effects_of : Tables → List Effect
 effects_of t = t.caused.effects ++ reverse t.others.items
 
--- an effect was performed, and maybe the one that it caused: what is left makes of the slots what the effect and those that wait make of them,
--- takes fewer turns, and has its places
+-- an effect was performed: what is left makes of the slots what the effect and those that wait make of them, takes fewer turns, and has its places
 pub record GoesOn (e : Effect) (t t' : Tables) : Type 0 where
   pub slots : performed (causes (effects_of t') (slots_of t')) ≡ performed (causes (e ∷ reverse t.others.items) (slots_of t))
   pub fewer : measure (slots_of t') (effects_of t') < measure (slots_of t) (e ∷ reverse t.others.items)

@@ -43,6 +43,7 @@ fn start_algorithm(tables: &mut Tables, i: StreamId, step: &Step, start: StartBy
 }
 
 /// The pull algorithm, by whose it is.
+#[inline(never)]
 #[tactic(auto, unfolding(ws_steps::specs::Turns::row))]
 fn pull_algorithm(tables: &mut Tables, i: StreamId)
     requires quiet { tables.old.caused.effects ≡ [] }
@@ -100,6 +101,7 @@ fn cancel_algorithm(tables: &mut Tables, i: StreamId, reason: &Plain, promise: P
 
 /// The write algorithm gets the chunk once the stream hands it on: to the host at once, and to a transform stream
 /// or a port once it has no backpressure.
+#[inline(never)]
 #[tactic(auto, unfolding(ws_steps::specs::Turns::row))]
 fn write_algorithm(tables: &mut Tables, i: StreamId)
     requires quiet { tables.old.caused.effects ≡ [] }
@@ -187,6 +189,7 @@ fn call_host(tables: &mut Tables, call: &mut HostCall, u: &Use)
 }
 
 /// The steps of a read request, by whom it answers.
+#[inline(never)]
 #[tactic(auto, unfolding(ws_steps::specs::Turns::row))]
 fn chunk_steps(tables: &mut Tables, i: StreamId, request: &ReadRequest, chunk: &mut Value)
     requires quiet { tables.old.caused.effects ≡ [] }
@@ -352,60 +355,8 @@ fn perform_alone(tables: &mut Tables, effect: &mut Effect)
     }
 }
 
-/// Performs the pull algorithm; that of a transform stream with the operation that it is.
-#[inline(never)]
-fn pull(tables: &mut Tables, i: StreamId)
-    requires quiet { tables.old.caused.effects ≡ [] }
-    requires room { HasRoomForAll (effect.PullAlgorithm i ∷ reverse tables.old.others.items) tables.old }
-    requires kept { IsKept tables.old }
-    ensures { GoesOn (effect.PullAlgorithm i) tables.old tables.new }
-{
-    match tables.owner(i) {
-        Owner::HalfOf(t) => {
-            let u = Use::React(Step::ReadablePull(i), None);
-            perform_transform(tables, t, &mut TransformOperation::SourcePull(u))
-        }
-        _ => pull_algorithm(tables, i),
-    }
-}
-
-/// Performs the write algorithm; that of a transform stream or of the host with the operation that it is.
-#[inline(never)]
-fn write(tables: &mut Tables, i: StreamId)
-    requires quiet { tables.old.caused.effects ≡ [] }
-    requires room { HasRoomForAll (effect.WriteAlgorithm i ∷ reverse tables.old.others.items) tables.old }
-    requires kept { IsKept tables.old }
-    ensures { GoesOn (effect.WriteAlgorithm i) tables.old tables.new }
-{
-    match tables.owner(i) {
-        Owner::HalfOf(t) => {
-            let u = Use::React(Step::WritableWrite(i), None);
-            perform_transform(tables, t, &mut TransformOperation::SinkWrite(u))
-        }
-        Owner::Host => perform_writable(tables, i, &mut WritableOperation::HandOn(Taker::ToHost)),
-        _ => write_algorithm(tables, i),
-    }
-}
-
-/// Performs the chunk steps of a read request; those of a pipe's with the operation that they are.
-#[inline(never)]
-fn hand_chunk(tables: &mut Tables, i: StreamId, request: &ReadRequest, chunk: &mut Value)
-    requires quiet { tables.old.caused.effects ≡ [] }
-    requires room { HasRoomForAll (effect.ChunkSteps i request.now chunk.old ∷ reverse tables.old.others.items) tables.old }
-    requires kept { IsKept tables.old }
-    ensures { GoesOn (effect.ChunkSteps i request.now chunk.old) tables.old tables.new }
-{
-    match request {
-        ReadRequest::Pipe(p) => {
-            perform_pipe(tables, *p, &mut PipeOperation::KeepChunk(taken(chunk)))
-        }
-        _ => chunk_steps(tables, i, request, chunk),
-    }
-}
-
-/// Performs an effect where it stands. Where that causes but one, of a chunk's way through a pipe, it is performed
-/// as well: to put it on the agenda and to take it from there costs as much. What is no operation of a record is
-/// performed in functions apart, so that this one has no locals and an operation is reached by a jump.
+/// Performs an effect where it stands, before all that waits. What is no operation of a record is performed in
+/// functions apart, so that this one has no locals and an operation is reached by a jump.
 #[inline(never)]
 pub(crate) fn perform_at(tables: &mut Tables, effect: &mut Effect)
     requires quiet { tables.old.caused.effects ≡ [] }
@@ -413,10 +364,5 @@ pub(crate) fn perform_at(tables: &mut Tables, effect: &mut Effect)
     requires kept { IsKept tables.old }
     ensures { GoesOn effect.old tables.old tables.new }
 {
-    match effect {
-        Effect::PullAlgorithm(i) => pull(tables, *i),
-        Effect::WriteAlgorithm(i) => write(tables, *i),
-        Effect::ChunkSteps(i, request, chunk) => hand_chunk(tables, *i, request, chunk),
-        _ => perform_alone(tables, effect),
-    }
+    perform_alone(tables, effect);
 }

@@ -12,12 +12,12 @@ mod transform;
 mod writable;
 
 pub(crate) use byte::{perform_byte, perform_byte_readable};
-pub use pipe::perform_pipe;
+pub use pipe::{perform_pipe, pipe_ends};
 pub(crate) use port::perform_port;
 pub use readable::perform_readable;
 pub(crate) use signal::perform_signal;
 pub(crate) use tee::perform_tee;
-pub use transform::perform_transform;
+pub use transform::{perform_transform, transform_halves};
 pub use writable::perform_writable;
 use ws_tables::Tables;
 use ws_value::{SignalId, StreamId};

@@ -9,4 +9,7 @@ mod effects;
 mod kinds;
 
 pub use agenda::perform_effects;
-pub use kinds::{perform_pipe, perform_readable, perform_transform, perform_writable};
+pub use kinds::{
+    perform_pipe, perform_readable, perform_transform, perform_writable, pipe_ends,
+    transform_halves,
+};

@@ -13,7 +13,7 @@ use ws_tables::{Stream, Tables};
 use ws_value::{PipeId, Plain, StreamId};
 
 /// What a pipe between these streams looks at.
-fn pipe_ends(streams: &Vec<Stream>, source: StreamId, dest: StreamId) -> PipeEnds<'_>
+pub fn pipe_ends(streams: &Vec<Stream>, source: StreamId, dest: StreamId) -> PipeEnds<'_>
     ensures { result
         ≡ ends_of
         (as_source (slice_get (map stream_of streams.now.items) source.0))

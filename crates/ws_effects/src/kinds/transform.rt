@@ -13,7 +13,7 @@ use ws_transform::{TransformHalves, looks_at_halves};
 use ws_value::{Plain, StreamId};
 
 /// What a transform stream with these halves looks at.
-fn transform_halves(
+pub fn transform_halves(
     streams: &Vec<Stream>,
     readable: StreamId,
     writable: StreamId,
