@@ -1,0 +1,68 @@
+//! Pulls.
+ghost use Rattle.std.specs.Prelude.{[], ◌∷◌, Ok};
+ghost use Rattle.ws_value.specs.declared.value.Plain.TheVariants.{Undefined};
+ghost use Rattle.ws_steps.specs.declared.effects.Effect.TheVariants as effect;
+ghost use Rattle.ws_steps.specs.declared.readable.ReadableOperation.TheVariants as readable;
+ghost use Rattle.ws_steps.specs.declared.transform.TransformOperation.TheVariants as transform;
+ghost use Rattle.ws_direct.specs.Directly.{IsReadyFor, PerformsDirectly, pulls_told};
+
+use crate::promises::use_promise;
+use ws_steps::{Effect, Owner, ReadableOperation, Step, TransformId, Use};
+use ws_tables::{Stream, Tables};
+use ws_value::{Plain, StreamId};
+
+/// TransformStreamDefaultSourcePullAlgorithm.
+fn source_pull(tables: &mut Tables, t: TransformId, u: &Use)
+    requires { IsReadyFor (effect.Transform t (transform.SourcePull u.now) ∷ []) tables.old }
+    ensures { PerformsDirectly (effect.Transform t (transform.SourcePull u.now) ∷ []) tables.old tables.new }
+{
+    if tables.transforms.len() <= t.0 as usize {
+        return;
+    }
+    let transform = &mut tables.transforms[t.0 as usize];
+    transform.set_backpressure(&mut tables.promises, false);
+    let change = transform.change();
+    use_promise(tables, change, u);
+}
+
+/// The pull algorithm, by whose it is.
+pub(crate) fn pull(tables: &mut Tables, i: StreamId)
+    requires { IsReadyFor (effect.PullAlgorithm i ∷ []) tables.old }
+    ensures { PerformsDirectly (effect.PullAlgorithm i ∷ []) tables.old tables.new }
+{
+    match tables.owner(i) {
+        Owner::HalfOf(t) => source_pull(tables, t, &Use::React(Step::ReadablePull(i), None)),
+        _ => tables.caused.push(Effect::PullAlgorithm(i)),
+    }
+}
+
+/// The pull algorithm, where it is to be performed.
+#[inline(always)]
+pub(crate) fn pull_where(tables: &mut Tables, i: StreamId, pulls: bool)
+    requires { IsReadyFor (pulls_told pulls i) tables.old }
+    ensures { PerformsDirectly (pulls_told pulls i) tables.old tables.new }
+{
+    if pulls {
+        pull(tables, i);
+    }
+}
+
+/// The pull algorithm of a readable stream has ended.
+pub fn pulled(tables: &mut Tables, i: StreamId)
+    requires { IsReadyFor (effect.Readable i (readable.PullSettled (Ok Undefined)) ∷ []) tables.old }
+    ensures { PerformsDirectly (effect.Readable i (readable.PullSettled (Ok Undefined)) ∷ []) tables.old tables.new }
+{
+    if !tables.has_readable(i) {
+        let operation = ReadableOperation::PullSettled(Ok(Plain::Undefined));
+        tables.caused.push(Effect::Readable(i, operation));
+        return;
+    }
+    match &mut tables.streams[i.0 as usize] {
+        Stream::Readable(stream) => {
+            if stream.pull_done() {
+                pull(tables, i);
+            }
+        }
+        Stream::Bytes(_) | Stream::Writable(_) => unreachable!(),
+    }
+}

@@ -1,0 +1,91 @@
+//! Reads of a pipe, and the chunk that comes.
+ghost use Rattle.std.specs.Prelude.{◌≡◌, ◌&&◌, ◌++◌, [], ◌∷◌};
+ghost use Rattle.ws_steps.specs.Slots.{has_readable, readable_at};
+ghost use Rattle.ws_steps.specs.Readable.{can_close_or_enqueue};
+ghost use Rattle.ws_steps.specs.declared.effects.Effect.TheVariants as effect;
+ghost use Rattle.ws_steps.specs.declared.pipes.PipeOperation.TheVariants as pipe;
+ghost use Rattle.ws_steps.specs.declared.readable.ReadableOperation.TheVariants as readable;
+ghost use Rattle.ws_tables.specs.View.{slots_of};
+ghost use Rattle.ws_direct.specs.Directly.{IsReadyFor, PerformsDirectly, given, pulls_told};
+
+use crate::after::hand_after;
+use crate::growth::note_growth;
+use crate::pulls::pull_where;
+use ws_steps::{Effect, ReadRequest, ReadableOperation};
+use ws_tables::{LIST_PLACES, Stream, Tables};
+use ws_value::{PipeId, StreamId, Value};
+
+/// A pipe keeps the chunk that it read.
+fn keep_chunk(tables: &mut Tables, p: PipeId, chunk: Value)
+    requires { IsReadyFor (effect.Pipe p (pipe.KeepChunk chunk) ∷ []) tables.old }
+    ensures { PerformsDirectly (effect.Pipe p (pipe.KeepChunk chunk) ∷ []) tables.old tables.new }
+{
+    if tables.pipes.len() as u128 <= p.0 {
+        return;
+    }
+    tables.pipes[p.0 as usize].keep_chunk(p, &mut tables.promises, chunk);
+}
+
+/// The chunk steps of a read request: those of a pipe's.
+#[inline(always)]
+pub(crate) fn hand(tables: &mut Tables, i: StreamId, request: ReadRequest, chunk: Value)
+    requires { IsReadyFor (effect.ChunkSteps i request chunk ∷ []) tables.old }
+    ensures { PerformsDirectly (effect.ChunkSteps i request chunk ∷ []) tables.old tables.new }
+{
+    match request {
+        ReadRequest::Pipe(p) => keep_chunk(tables, p, chunk),
+        _ => tables.caused.push(Effect::ChunkSteps(i, request, chunk)),
+    }
+}
+
+/// Whether there is a readable stream of this number with a default controller that can close or enqueue.
+#[inline(always)]
+pub(crate) fn is_going(tables: &Tables, i: StreamId) -> bool
+    ensures { result ≡ (has_readable i (slots_of tables.now)
+        && can_close_or_enqueue (readable_at i (slots_of tables.now))) }
+{
+    match tables.streams.get(i.0 as usize) {
+        Some(Stream::Readable(stream)) => stream.can_close_or_enqueue(),
+        Some(Stream::Bytes(_) | Stream::Writable(_)) | None => false,
+    }
+}
+
+/// The chunk that was read is handed to the request, where there is one, after a pull.
+#[inline(always)]
+fn give(tables: &mut Tables, i: StreamId, request: ReadRequest, chunk: Option<Value>, pulls: bool)
+    requires { IsReadyFor (pulls_told pulls i ++ given i request chunk) tables.old }
+    ensures { PerformsDirectly (pulls_told pulls i ++ given i request chunk) tables.old tables.new }
+{
+    match chunk {
+        Some(chunk) => {
+            pull_where(tables, i, pulls);
+            hand_after(tables, i, request, chunk);
+        }
+        None => pull_where(tables, i, pulls),
+    }
+}
+
+/// A pipe reads.
+pub(crate) fn read(tables: &mut Tables, i: StreamId, request: ReadRequest)
+    requires { IsReadyFor (effect.Readable i (readable.Read request) ∷ []) tables.old }
+    ensures { PerformsDirectly (effect.Readable i (readable.Read request) ∷ []) tables.old tables.new }
+{
+    if !is_going(tables, i) {
+        tables
+            .caused
+            .push(Effect::Readable(i, ReadableOperation::Read(request)));
+        return;
+    }
+    match &mut tables.streams[i.0 as usize] {
+        Stream::Readable(stream) => {
+            let had_room = stream.has_room(LIST_PLACES);
+            let waited = stream.waiting_requests();
+            let (chunk, pulls) = stream.read_directly(request);
+            tables.waiting = tables.waiting - waited + stream.waiting_requests();
+            let has_room = stream.has_room(LIST_PLACES);
+            note_growth(tables, i, had_room, has_room);
+            give(tables, i, request, chunk, pulls);
+        }
+        Stream::Bytes(_) | Stream::Writable(_) => unreachable!(),
+    }
+}
