@@ -1,5 +1,5 @@
 //! The calls on controllers, and the looks at a stream.
-ghost use Rattle.std.specs.Prelude.{◌≡◌, Result, false};
+ghost use Rattle.std.specs.Prelude.{◌≡◌, ◌≤◌, [], Result, false};
 ghost use Rattle.ws_steps.specs.ControllerCalls as controller_calls;
 ghost use Rattle.ws_steps.specs.Calls as calls;
 ghost use Rattle.ws_steps.specs.Slots.{has_readable};
@@ -29,7 +29,8 @@ fn outcome_of(answer: Answer) -> Result<Plain, Plain>
 #[tactic(auto, using(crate::proofs::Looking::empty_length))]
 fn enqueue_bytes(tables: &mut Tables, i: StreamId, chunk: Value) -> Reply
     requires bytes { has_readable i (slots_of tables.old) ≡ false }
-    requires ready { CanBegin tables.old }
+    requires quiet { tables.old.caused.effects ≡ [] }
+    requires effects { 1 ≤ tables.old.caused.capacity }
     ensures { Answers (controller_calls.enqueue_call i chunk (slots_of tables.old)) result tables.old tables.new }
 {
     if !tables.has_byte(i) {
@@ -48,9 +49,11 @@ fn enqueue_bytes(tables: &mut Tables, i: StreamId, chunk: Value) -> Reply
 }
 
 /// What the enqueuing of a chunk begins with.
+#[inline(always)]
 #[tactic(auto, using(crate::proofs::Looking::default_no_byte), unfolding(ws_steps::specs::Calls::begin))]
 pub fn enqueue(tables: &mut Tables, i: StreamId, chunk: Value) -> Reply
-    requires ready { CanBegin tables.old }
+    requires quiet { tables.old.caused.effects ≡ [] }
+    requires effects { 1 ≤ tables.old.caused.capacity }
     ensures { Answers (calls.begin (call.Enqueue i chunk) (slots_of tables.old)) result tables.old tables.new }
 {
     if !tables.has_readable(i) {

@@ -1,24 +1,28 @@
 -- The one effect of a job is performed at once: there are places for it and for all that comes of it.
-use Rattle.std.proofs.Common.{◌≡◌, ◌∙◌, false, List, [], ◌∷◌, ◌++◌, Option, Some, None, refl, sym, ap, subst, arith}
+use Rattle.std.proofs.Common.{◌≡◌, ◌∙◌, false, List, [], ◌∷◌, Option, Some, None, refl, sym, ap, subst, arith}
 use Rattle.std.specs.Prelude.{option_map, vec_capacity}
 use Rattle.std.proofs.lemmas.List.{append-nil}
 use Rattle.ws_steps.specs.declared.effects.Effect.{Effect}
 use Rattle.ws_steps.specs.declared.promises.Job.{Job}
+use Rattle.ws_steps.specs.declared.calls.Call.{Call}
+use Rattle.ws_steps.specs.declared.calls.Reply.TheVariants.{Done}
+use Rattle.ws_steps.specs.Begun.{Begun, does}
+use Rattle.ws_steps.specs.Calls.{begin}
 use Rattle.ws_steps.specs.Jobs.{begin_job, job_effects}
 use Rattle.ws_steps.specs.Promises.{next_job, first_job, after_next_job}
 use Rattle.ws_steps.specs.Queues.{is_empty}
-use Rattle.ws_steps.specs.Slots.{Slots, Done, causes}
-use Rattle.ws_steps.specs.Turns.{row, performed}
-use Rattle.ws_room_laws.proofs.Turns.{performed_next, performed_none}
+use Rattle.ws_steps.specs.Slots.{Done as Left, causes}
+use Rattle.ws_steps.specs.Turns.{performed}
+use Rattle.ws_room_laws.proofs.Turns.{performed_none}
 use Rattle.ws_tables.specs.View.{slots_of}
-use Rattle.ws_tables.specs.Room.{Places, AreEnough, CanTurn, HasRoomForAll, IsKept, IsPrepared, IsResting}
-use Rattle.ws_effects.specs.Performing.{HasRoomFor, Performs, PerformsAll}
+use Rattle.ws_tables.specs.Room.{AreEnough, CanTurn, HasRoomForAll, IsKept, IsReady, IsResting}
+use Rattle.ws_direct.specs.Directly.{IsReadyFor, PerformsDirectly}
+use Rattle.ws_effects.specs.Performing.{PerformsAll}
 use Rattle.ws_tables.specs.declared.tables.Tables.{Tables}
 use Rattle.ws_tables.proofs.Places.{kept_same}
-use Rattle.ws_effects.proofs.Turns.{room-for, next-room, next-turns}
 use Rattle.ws_begin.specs.Begin.{IsBegun}
 use Rattle.ws_calls.specs.First.{Began}
-use Rattle.ws_calls.proofs.Beginning.{job-begins}
+use Rattle.ws_calls.proofs.Beginning.{call-begins, job-begins}
 
 -- the first job is taken out of the queue
 abbrev pub without_first : Tables → Tables
@@ -62,6 +66,47 @@ fits e t begun =
           begun.kept;
     }
 
+-- it is performed at once: there are places for what is left, which makes of the slots what it makes
+
+pub begun-at : (e : Effect) (t t' : Tables) → Fits e t → t.others.items ≡ [] → PerformsDirectly (e ∷ []) t t' → IsBegun t'
+begun-at e t t' had none did =
+    let all = append-nil t'.caused.effects in
+    record {
+      others = ap (λ v. v.items) did.others ∙ none;
+      turns =
+          record {
+            empty = ap (λ v. v.items) did.under_way ∙ had.turns.empty;
+            places =
+                subst (λ v. AreEnough (vec_capacity v) t'.caused.effects t') (sym did.under_way)
+                (subst (λ es. AreEnough (vec_capacity t.under_way) es t') all (did.turns (vec_capacity t.under_way) [] had.turns.places));
+          };
+      room = subst (λ es. HasRoomForAll es t') all (did.room [] had.room);
+      kept = did.kept;
+    }
+
+pub left-at : (e : Effect) (t t' : Tables) → PerformsDirectly (e ∷ []) t t' → performed (causes t'.caused.effects (slots_of t')) ≡ performed (causes (e ∷ []) (slots_of t))
+left-at e t t' did = ap (λ es. performed (causes es (slots_of t'))) (sym (append-nil t'.caused.effects)) ∙ did.slots []
+
+-- a call that does this one effect, and nothing else
+
+pub call-fits : (c : Call) (e : Effect) (t : Tables) → IsReady t → IsResting t → begin c (slots_of t) ≡ does (e ∷ []) (slots_of t) → Fits e t
+call-fits c e t ready rest is =
+    fits e t
+    (call-begins c Done t (causing e t) ready rest
+    (record {
+      reply = ap (λ (b : Begun). b.reply) (sym is);
+      slots = ap (λ (b : Begun). b.done.slots) (sym is);
+      caused = ap (λ (b : Begun). b.done.caused) (sym is);
+      others = refl;
+      places = refl;
+      waiting = refl;
+      aborts = refl;
+      records = record { streams = refl; grown = refl; signals = refl; full = refl; tees = refl; uncopied = refl };
+    }))
+
+pub call-ready : (c : Call) (e : Effect) (t : Tables) → IsReady t → IsResting t → begin c (slots_of t) ≡ does (e ∷ []) (slots_of t) → IsReadyFor (e ∷ []) t
+call-ready c e t ready rest is = let had = call-fits c e t ready rest is in record { quiet = rest.caused; room = had.room; kept = had.kept }
+
 -- a job with one effect begins so
 begins-with : (t : Tables) (job : Job) (e : Effect) → next_job t.promises.table ≡ Some job → job_effects job ≡ e ∷ []
     → begin_job (slots_of t) ≡ causes (e ∷ []) (slots_of (without_first t))
@@ -77,7 +122,7 @@ first-busy : (js : List Job) (job : Job) → first_job js ≡ Some job → is_em
 first-busy [] job there = cc
 first-busy (j ∷ js) job there = refl
 
-module _ (t : Tables) (ready : IsPrepared t) (rest : IsResting t) (job : Job) (e : Effect) (there : next_job t.promises.table ≡ Some job)
+module _ (t : Tables) (ready : IsReady t) (rest : IsResting t) (job : Job) (e : Effect) (there : next_job t.promises.table ≡ Some job)
     (one : job_effects job ≡ e ∷ []) where
   pub first-fits : Fits e (without_first t)
   first-fits =
@@ -85,43 +130,44 @@ module _ (t : Tables) (ready : IsPrepared t) (rest : IsResting t) (job : Job) (e
       fits e (without_first t)
       (job-begins t (causing e (without_first t)) ready rest
       (record {
-        slots = ap (λ (d : Done). d.slots) (sym begun);
-        caused = ap (λ (d : Done). d.caused) (sym begun);
+        slots = ap (λ (d : Left). d.slots) (sym begun);
+        caused = ap (λ (d : Left). d.caused) (sym begun);
         others = refl;
         places = refl;
         records = record { streams = refl; grown = refl; waiting = refl; pipes = refl; signals = refl; full = refl; aborts = refl; tees = refl; uncopied = refl };
       }))
 
-  pub first-room : HasRoomFor e (without_first t)
-  first-room = room-for e [] (without_first t) first-fits.room
+  pub first-ready : t.caused.effects ≡ [] → IsReadyFor (e ∷ []) (without_first t)
+  first-ready quiet = let had = first-fits in record { quiet = quiet; room = had.room; kept = had.kept }
 
-  pub began : (t' : Tables) → Performs e (without_first t) t' → IsKept t' → Began t t'
-  began t' did kept =
-      let had = first-fits in
-      let s : Slots = slots_of (without_first t) in
-      let all = append-nil t'.caused.effects in
-      let enough = next-turns e [] (without_first t) t' (vec_capacity t.under_way) had.turns.places had.kept did kept in
-      record {
-        begun =
-            record {
-              others = ap (λ v. v.items) did.others ∙ rest.others;
-              turns =
-                  record {
-                    empty = ap (λ (p : Places). p.under_way.items) did.places ∙ rest.under_way;
-                    places =
-                        subst (λ v. AreEnough (vec_capacity v) t'.caused.effects t') (sym (ap (λ (p : Places). p.under_way) did.places))
-                        (subst (λ es. AreEnough (vec_capacity t.under_way) es t') all enough);
-                  };
-              room = subst (λ es. HasRoomForAll es t') all (next-room e [] (without_first t) t' had.room had.kept did kept);
-              kept = kept;
-            };
-        slots =
-            ap (λ es. performed (causes es (slots_of t'))) (sym all)
-            ∙ (ap (λ es. performed (causes (es ++ []) (slots_of t'))) did.caused
-            ∙ (ap (λ z. performed (causes ((row e s).caused ++ []) z)) did.slots
-            ∙ (sym (performed_next s e []) ∙ ap performed (sym (begins-with t job e there one)))));
-        busy = first-busy t.promises.table.jobs job there;
-      }
+  pub began : (t' : Tables) → PerformsDirectly (e ∷ []) (without_first t) t' → Began t t'
+  began t' did = record {
+    begun = begun-at e (without_first t) t' first-fits rest.others did;
+    slots = left-at e (without_first t) t' did ∙ ap performed (sym (begins-with t job e there one));
+    busy = first-busy t.promises.table.jobs job there;
+  }
+
+-- a job without effects begins so, and nothing is left to perform
+begins-without : (t : Tables) (job : Job) → next_job t.promises.table ≡ Some job → job_effects job ≡ [] → begin_job (slots_of t) ≡ causes [] (slots_of (without_first t))
+unfolding begin_job
+begins-without t job there none = rw (there, none) refl
+
+pub began-nothing : (t : Tables) → IsReady t → IsResting t → (job : Job) → next_job t.promises.table ≡ Some job → job_effects job ≡ [] → Began t (without_first t)
+began-nothing t ready rest job there none =
+    let begun = begins-without t job there none in
+    record {
+      begun =
+          job-begins t (without_first t) ready rest
+          (record {
+            slots = ap (λ (d : Left). d.slots) (sym begun);
+            caused = rest.caused ∙ ap (λ (d : Left). d.caused) (sym begun);
+            others = refl;
+            places = refl;
+            records = record { streams = refl; grown = refl; waiting = refl; pipes = refl; signals = refl; full = refl; aborts = refl; tees = refl; uncopied = refl };
+          });
+      slots = ap (λ es. performed (causes es (slots_of (without_first t)))) rest.caused ∙ ap performed (sym begun);
+      busy = first-busy t.promises.table.jobs job there;
+    }
 
 -- nothing was caused, and nothing is left to perform
 pub none-caused : (t : Tables) → IsBegun t → t.caused.effects ≡ [] → PerformsAll t t

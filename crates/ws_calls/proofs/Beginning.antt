@@ -19,7 +19,7 @@ use Rattle.ws_steps.specs.Slots.{Slots, Done}
 use Rattle.ws_room_laws.proofs.Room.{Begins as BeginsWithin, begin-fits, job-fits}
 use Rattle.ws_laws.proofs.Begin.{begin-makes}
 use Rattle.ws_tables.specs.View.{slots_of, stream_of, signal_of, tee_of}
-use Rattle.ws_tables.specs.Room.{Places, places_of, room_of, queued_in, requested_in, described_in, waiting_in, aborts_in, IsWithin, HasLists, HasRooms, AllCovered, AllHaveMembers, IsCounted, HasFew, AreSourced, HasCopies, AreCopied, asked, CanTurn, HasRoomForAll, IsPrepared, IsResting, IsKept}
+use Rattle.ws_tables.specs.Room.{Places, places_of, room_of, queued_in, requested_in, described_in, waiting_in, aborts_in, IsWithin, HasLists, HasRooms, AllCovered, AllHaveMembers, IsCounted, HasFew, AreSourced, HasCopies, AreCopied, asked, CanTurn, HasRoomForAll, IsReady, IsResting, IsKept}
 use Rattle.ws_begin.specs.Begin.{IsBegun, IsEmpty, Answers, Begins, MakesNone, MakesOne, MakesTwo, MakesSignal, RecordsAfter}
 use Rattle.ws_tables.specs.declared.tables.Stream.{Stream as StreamRecord}
 use Rattle.ws_tables.specs.declared.tables.Stream.TheVariants.{Readable, Bytes, Writable}
@@ -165,7 +165,7 @@ fewer-copies (suc n) x less can = can
 
 -- what is taken stays within what is prepared for any call or job
 module _ (d : Done) (t t' : Tables) (within : (π : Prices) (i : StreamId) (a : SignalId) → Counts π i → BeginsWithin π i a (all_kept π (slots_of t) + step_price π) (slots_of t) d)
-    (ready : IsPrepared t) (was : IsKept t) (start : Starts d t t') where
+    (ready : IsReady t) (was : IsKept t) (start : Starts d t t') where
   took : Takes step_price (slots_of t) (slots_of t') t'.caused.effects
   took = rw (start.slots, start.caused) (takes step_price (slots_of t) d.slots d.caused (λ π i a c. let h = within π i a c in omega (arith, h)))
 
@@ -402,7 +402,7 @@ module _ (d : Done) (t t' : Tables) (within : (π : Prices) (i : StreamId) (a : 
 
 starts : (d : Done) (t t' : Tables)
     → ((π : Prices) (i : StreamId) (a : SignalId) → Counts π i → BeginsWithin π i a (all_kept π (slots_of t) + step_price π) (slots_of t) d)
-    → IsPrepared t → IsResting t → Starts d t t' → IsBegun t'
+    → IsReady t → IsResting t → Starts d t t' → IsBegun t'
 starts d t t' within ready rest start = record {
   others = ap (λ v. v.items) start.others ∙ rest.others;
   turns = turns-fit d t t' within ready rest.kept start rest.under_way;
@@ -410,7 +410,7 @@ starts d t t' within ready rest start = record {
   kept = kept d t t' start rest.kept;
 }
 
-pub call-begins : (c : Call) (reply : Reply) (t t' : Tables) → IsPrepared t → IsResting t → Answers (begin c (slots_of t)) reply t t' → IsBegun t'
+pub call-begins : (c : Call) (reply : Reply) (t t' : Tables) → IsReady t → IsResting t → Answers (begin c (slots_of t)) reply t t' → IsBegun t'
 call-begins c reply t t' ready rest did =
     starts (begin c (slots_of t)).done t t' (λ π i a counts. let h = begin-fits π i a counts (slots_of t) c in omega (arith, h)) ready rest
     (record {
@@ -427,7 +427,7 @@ call-begins c reply t t' ready rest did =
       records = which-made reply t t' did.records;
     })
 
-pub job-begins : (t t' : Tables) → IsPrepared t → IsResting t → Begins (begin_job (slots_of t)) t t' → IsBegun t'
+pub job-begins : (t t' : Tables) → IsReady t → IsResting t → Begins (begin_job (slots_of t)) t t' → IsBegun t'
 job-begins t t' ready rest did =
     let same = did.records in
     starts (begin_job (slots_of t)) t t' (λ π i a counts. job-fits π i a counts (slots_of t)) ready rest

@@ -1,18 +1,17 @@
-//! The jobs that each chunk meets on its way through a pipe. Each has one effect, which is performed at once: to put
-//! it on the agenda and to take it from there costs as much as most effects do.
+//! The jobs that each chunk meets on its way through a pipe. Each has one effect, which is performed at once, with what
+//! comes of it.
 ghost use Rattle.std.specs.Prelude.{◌≡◌, [], ◌∷◌, Some, IfSome, option_map, true, false};
 ghost use Rattle.ws_steps.specs.Jobs.{job_effects};
 ghost use Rattle.ws_jobs.specs.Shorts.{job_in};
-ghost use Rattle.ws_effects.specs.Performing.{HasRoomFor, Performs};
-ghost use Rattle.ws_tables.specs.Room.{IsKept, IsPrepared, IsResting};
+ghost use Rattle.ws_direct.specs.Directly.{IsReadyFor, PerformsDirectly};
+ghost use Rattle.ws_effects.specs.Performing.{Performs};
+ghost use Rattle.ws_tables.specs.Room.{IsReady, IsResting, KeepsRecords};
 ghost use Rattle.ws_calls.specs.First.{Began, effect_of};
 ghost use Rattle.ws_calls.specs.declared.first.First.TheVariants as first;
 
-use ws_effects::{perform_pipe, perform_readable, perform_transform, perform_writable};
+use ws_direct::{pipe_ready, pipe_writes, pipe_wrote, pulled, write_goes_on, wrote};
 use ws_jobs::Short;
-use ws_steps::{
-    PipeOperation, ReadableOperation, TransformId, TransformOperation, WritableOperation,
-};
+use ws_steps::TransformId;
 use ws_tables::Tables;
 use ws_value::{PipeId, Plain, PromiseId, StreamId};
 
@@ -54,96 +53,39 @@ fn first_of(short: &Short) -> Option<First>
     }
 }
 
-/// The pull algorithm of a readable stream has ended.
-fn pulled(tables: &mut Tables, i: StreamId)
-    requires quiet { tables.old.caused.effects ≡ [] }
-    requires room { HasRoomFor (effect_of (first.Pulled i)) tables.old }
-    requires kept { IsKept tables.old }
-    ensures performs { Performs (effect_of (first.Pulled i)) tables.old tables.new }
-    ensures kept { IsKept tables.new }
+/// Whether the job has no effect, as one by which a promise follows another.
+#[inline(always)]
+fn is_follow(short: &Short) -> bool
+    ensures { result ≡ true → option_map job_effects (job_in short.now) ≡ Some [] }
 {
-    let mut operation = ReadableOperation::PullSettled(Ok(Plain::Undefined));
-    perform_readable(tables, i, &mut operation);
-}
-
-/// The write algorithm of a writable stream has ended.
-fn wrote(tables: &mut Tables, i: StreamId)
-    requires quiet { tables.old.caused.effects ≡ [] }
-    requires room { HasRoomFor (effect_of (first.Wrote i)) tables.old }
-    requires kept { IsKept tables.old }
-    ensures performs { Performs (effect_of (first.Wrote i)) tables.old tables.new }
-    ensures kept { IsKept tables.new }
-{
-    let mut operation = WritableOperation::WriteSettled(Ok(Plain::Undefined));
-    perform_writable(tables, i, &mut operation);
-}
-
-/// A pipe writes the chunk that it holds.
-fn pipe_writes(tables: &mut Tables, p: PipeId)
-    requires quiet { tables.old.caused.effects ≡ [] }
-    requires room { HasRoomFor (effect_of (first.PipeWrites p)) tables.old }
-    requires kept { IsKept tables.old }
-    ensures performs { Performs (effect_of (first.PipeWrites p)) tables.old tables.new }
-    ensures kept { IsKept tables.new }
-{
-    let mut operation = PipeOperation::WriteChunk;
-    perform_pipe(tables, p, &mut operation);
-}
-
-/// The writer of a pipe has become ready.
-fn pipe_ready(tables: &mut Tables, p: PipeId)
-    requires quiet { tables.old.caused.effects ≡ [] }
-    requires room { HasRoomFor (effect_of (first.PipeReady p)) tables.old }
-    requires kept { IsKept tables.old }
-    ensures performs { Performs (effect_of (first.PipeReady p)) tables.old tables.new }
-    ensures kept { IsKept tables.new }
-{
-    let mut operation = PipeOperation::LookReady;
-    perform_pipe(tables, p, &mut operation);
-}
-
-/// A write of a pipe has settled.
-fn pipe_wrote(tables: &mut Tables, p: PipeId)
-    requires quiet { tables.old.caused.effects ≡ [] }
-    requires room { HasRoomFor (effect_of (first.PipeWrote p)) tables.old }
-    requires kept { IsKept tables.old }
-    ensures performs { Performs (effect_of (first.PipeWrote p)) tables.old tables.new }
-    ensures kept { IsKept tables.new }
-{
-    let mut operation = PipeOperation::WriteEnded;
-    perform_pipe(tables, p, &mut operation);
-}
-
-/// A write of a transform stream waits for its backpressure no longer.
-fn write_goes_on(tables: &mut Tables, t: TransformId, promise: PromiseId)
-    requires quiet { tables.old.caused.effects ≡ [] }
-    requires room { HasRoomFor (effect_of (first.WriteGoesOn t promise)) tables.old }
-    requires kept { IsKept tables.old }
-    ensures performs { Performs (effect_of (first.WriteGoesOn t promise)) tables.old tables.new }
-    ensures kept { IsKept tables.new }
-{
-    let mut operation = TransformOperation::WriteGoesOn(promise);
-    perform_transform(tables, t, &mut operation);
+    match short {
+        Short::Follow(_, _) => true,
+        _ => false,
+    }
 }
 
 /// Fulfils a promise with undefined.
 #[tactic(auto, unfolding(ws_steps::specs::Turns::row))]
-fn fulfils(tables: &mut Tables, promise: PromiseId)
+fn settle(tables: &mut Tables, promise: PromiseId)
     requires quiet { tables.old.caused.effects ≡ [] }
-    requires kept { IsKept tables.old }
     ensures performs { Performs (effect_of (first.Fulfils promise)) tables.old tables.new }
-    ensures kept { IsKept tables.new }
+    ensures records { KeepsRecords tables.old tables.new }
 {
     tables.promises.fulfil(promise, Plain::Undefined);
 }
 
+#[inline(always)]
+fn fulfils(tables: &mut Tables, promise: PromiseId)
+    requires { IsReadyFor (effect_of (first.Fulfils promise) ∷ []) tables.old }
+    ensures { PerformsDirectly (effect_of (first.Fulfils promise) ∷ []) tables.old tables.new }
+{
+    settle(tables, promise);
+}
+
 /// Performs such an effect. Each stands in a function of its own, since each local of a function costs at its entry.
 fn perform(tables: &mut Tables, first: First)
-    requires quiet { tables.old.caused.effects ≡ [] }
-    requires room { HasRoomFor (effect_of first) tables.old }
-    requires kept { IsKept tables.old }
-    ensures performs { Performs (effect_of first) tables.old tables.new }
-    ensures kept { IsKept tables.new }
+    requires { IsReadyFor (effect_of first ∷ []) tables.old }
+    ensures { PerformsDirectly (effect_of first ∷ []) tables.old tables.new }
 {
     match first {
         First::Pulled(i) => pulled(tables, i),
@@ -156,16 +98,20 @@ fn perform(tables: &mut Tables, first: First)
     }
 }
 
-/// Takes the first job out of the queue and performs its one effect, where it is such a job. False says that nothing
-/// was done.
+/// Takes the first job out of the queue and performs its one effect, where it is such a job or one without effects.
+/// False says that nothing was done.
 pub(crate) fn begin_first(tables: &mut Tables) -> bool
-    requires prepared { IsPrepared tables.old }
+    requires ready { IsReady tables.old }
     requires resting { IsResting tables.old }
     ensures began { result ≡ true → Began tables.old tables.new }
     ensures untouched { result ≡ false → tables.new ≡ tables.old }
 {
     let short = tables.promises.first_short();
     let Some(first) = first_of(&short) else {
+        if is_follow(&short) {
+            tables.promises.drop_first_job();
+            return true;
+        }
         return false;
     };
     tables.promises.drop_first_job();

@@ -1,5 +1,6 @@
-//! Calls and jobs of a realm whole: what they begin with, and all that comes of it, in memory that was taken before.
+//! Calls and jobs of a realm whole: what they begin with, and all that comes of it, in the places that there are.
 //!
+//! None has an answer for want of memory: that there are places for each and all that comes of it is what they require.
 //! `perform` performs a call or a job, and the enqueuing of a chunk without a call made of it. `first` performs the one
 //! effect of a job that each chunk meets, as `settled` performs the call of a host that is done.
 #![tactic(auto)]

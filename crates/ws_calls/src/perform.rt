@@ -1,11 +1,15 @@
 //! Calls and jobs performed whole.
-ghost use Rattle.std.specs.Prelude.{◌≡◌, ◌↔◌, true, ◌<◌, ◌≤◌, ◌+◌, ◌^◌, not, if◌then◌else◌};
+ghost use Rattle.std.specs.Prelude.{◌≡◌, ◌↔◌, true, IfSome, [], ◌∷◌, ◌<◌, ◌≤◌, ◌+◌, ◌^◌, not, if◌then◌else◌};
 ghost use Rattle.ws_promise.specs.Seen.{HasEventRoom, HasPromiseRoom};
+ghost use Rattle.ws_value.specs.declared.value.Value.{Value};
+ghost use Rattle.ws_steps.specs.Begun.{does};
 ghost use Rattle.ws_steps.specs.Calls as calls;
+ghost use Rattle.ws_steps.specs.declared.effects.Effect.TheVariants as effect;
+ghost use Rattle.ws_steps.specs.declared.transform.TransformOperation.TheVariants as transform;
 ghost use Rattle.ws_steps.specs.Run as run;
 ghost use Rattle.ws_steps.specs.declared.calls.Call.TheVariants as call;
 ghost use Rattle.ws_steps.specs.declared.calls.Reply.TheVariants.{Done};
-ghost use Rattle.ws_tables.specs.Room.{IsPrepared, IsResting};
+ghost use Rattle.ws_tables.specs.Room.{IsPrepared, IsReady, IsResting};
 ghost use Rattle.ws_effects.specs.Performing.{PerformsAll};
 ghost use Rattle.ws_tables.specs.View.{slots_of};
 ghost use Rattle.ws_begin.specs.Begin.{IsBegun, IsSameBeside};
@@ -13,8 +17,9 @@ ghost use Rattle.ws_begin.specs.Begin.{IsBegun, IsSameBeside};
 use crate::first::begin_first;
 use crate::settled::settle_done;
 use ws_begin::{UNSUPPORTED, begin, begin_job, enqueue};
+use ws_direct::enqueue as enqueue_at;
 use ws_effects::perform_effects;
-use ws_steps::{Answer, Call, Reply};
+use ws_steps::{Answer, Call, Owner, Reply, TransformId};
 use ws_tables::Tables;
 use ws_value::{StreamId, Value};
 
@@ -67,10 +72,21 @@ fn is_done(reply: &Reply) -> bool
     matches!(reply, Reply::Done)
 }
 
-/// Performs the enqueuing of a chunk with all that comes of it. Whether the stream took the chunk: it doesn't where
-/// the call throws.
-pub fn perform_enqueue(tables: &mut Tables, i: StreamId, chunk: Value) -> bool
-    requires prepared { IsPrepared tables.old }
+/// Performs what was caused, with all that comes of it. Mostly that is nothing where a promise was fulfilled.
+fn perform_caused(tables: &mut Tables)
+    requires { IsBegun tables.old }
+    ensures { PerformsAll tables.old tables.new }
+{
+    if tables.caused.len() == 0 {
+        return;
+    }
+    perform_effects(tables);
+}
+
+/// Performs the enqueuing of a chunk with all that comes of it, by way of the agenda.
+#[inline(never)]
+fn perform_uncommon_enqueue(tables: &mut Tables, i: StreamId, chunk: Value) -> bool
+    requires ready { IsReady tables.old }
     requires resting { IsResting tables.old }
     requires young { tables.old.age < 2 ^ 62 }
     ensures done { (result ≡ true) ↔ (run.reply_to (call.Enqueue i chunk) (slots_of tables.old) ≡ Done) }
@@ -83,6 +99,43 @@ pub fn perform_enqueue(tables: &mut Tables, i: StreamId, chunk: Value) -> bool
     name(tables, reply);
     tables.age += 1;
     is_done(&reply)
+}
+
+/// The transform stream at whose readable half a chunk is enqueued, where that can take it.
+#[inline(always)]
+#[tactic(auto, unfolding(ws_steps::specs::Calls::begin))]
+fn half_of(tables: &Tables, i: StreamId) -> Option<TransformId>
+    ensures { IfSome result (λ t. (chunk : Value) → calls.begin (call.Enqueue i chunk) (slots_of tables.now)
+        ≡ does (effect.Transform t (transform.Enqueue chunk) ∷ []) (slots_of tables.now)) }
+{
+    if !tables.has_readable(i) {
+        return None;
+    }
+    let stream = tables.readable(i);
+    match stream.owner() {
+        Owner::HalfOf(t) if stream.can_close_or_enqueue() => Some(t),
+        _ => None,
+    }
+}
+
+/// Performs the enqueuing of a chunk with all that comes of it. Whether the stream took the chunk: it doesn't where
+/// the call throws.
+pub fn perform_enqueue(tables: &mut Tables, i: StreamId, chunk: Value) -> bool
+    requires ready { IsReady tables.old }
+    requires resting { IsResting tables.old }
+    requires young { tables.old.age < 2 ^ 62 }
+    ensures done { (result ≡ true) ↔ (run.reply_to (call.Enqueue i chunk) (slots_of tables.old) ≡ Done) }
+    ensures slots { slots_of tables.new ≡ run.after_call (call.Enqueue i chunk) (slots_of tables.old) }
+    ensures resting { IsResting tables.new }
+    ensures age { tables.new.age ≡ tables.old.age + 1 }
+{
+    let Some(t) = half_of(tables, i) else {
+        return perform_uncommon_enqueue(tables, i, chunk);
+    };
+    enqueue_at(tables, t, chunk);
+    perform_caused(tables);
+    tables.age += 1;
+    true
 }
 
 /// Performs a call with all that comes of it, in the places that there are.
@@ -110,7 +163,7 @@ pub fn perform_call(tables: &mut Tables, call: Call) -> Reply
 /// Performs the first job with all that comes of it, where one is queued, by way of the agenda.
 #[inline(never)]
 fn perform_uncommon_job(tables: &mut Tables) -> bool
-    requires prepared { IsPrepared tables.old }
+    requires ready { IsReady tables.old }
     requires resting { IsResting tables.old }
     requires young { tables.old.age < 2 ^ 62 }
     ensures worked { result ≡ not (run.is_idle (slots_of tables.old)) }
@@ -127,20 +180,9 @@ fn perform_uncommon_job(tables: &mut Tables) -> bool
     true
 }
 
-/// Performs what was caused, with all that comes of it. Mostly that is nothing where a promise was fulfilled.
-fn perform_caused(tables: &mut Tables)
-    requires { IsBegun tables.old }
-    ensures { PerformsAll tables.old tables.new }
-{
-    if tables.caused.len() == 0 {
-        return;
-    }
-    perform_effects(tables);
-}
-
 /// Performs the first job with all that comes of it, where one is queued, in the places that there are.
 pub fn perform_job(tables: &mut Tables) -> bool
-    requires prepared { IsPrepared tables.old }
+    requires ready { IsReady tables.old }
     requires resting { IsResting tables.old }
     requires young { tables.old.age < 2 ^ 62 }
     ensures worked { result ≡ not (run.is_idle (slots_of tables.old)) }

@@ -1,11 +1,8 @@
 use Rattle.std.proofs.Common.{Ok}
 use Rattle.ws_value.specs.declared.value.Plain.TheVariants.{Undefined}
-use Rattle.ws_tables.specs.View.{slots_of}
-use Rattle.ws_tables.proofs.Counts.{settle-more}
-use Rattle.ws_tables.proofs.Places.{kept_promises}
+use Rattle.ws_steps.specs.declared.effects.Effect.TheVariants.{Settle}
+use Rattle.ws_direct.proofs.Reaching.{did-so}
 use Rattle.ws_calls.proofs.first.fulfils.Goals as goal
 
-pub returns-clause-kept : goal.returns-clause-kept
-returns-clause-kept c =
-    kept_promises c.args.tables.now c.fulfil.new.self
-    (rw c.fulfil.ensures (settle-more c.args.promise (Ok Undefined) (slots_of c.args.tables.now))) c.requires.kept
+pub returns : goal.returns
+returns c = did-so (Settle c.args.promise (Ok Undefined)) c.args.tables.now c.settle.new.tables c.requires c.settle.ensures.performs c.settle.ensures.records

@@ -15,7 +15,7 @@ begin-reply-requires-clause-room c =
     let tees = length-map t.tees.items tee_of in
     record {
       streams = ready.streams;
-      grown = let h = ready.grown in omega (arith, h);
+      grown = let h = ready.ready.grown in omega (arith, h);
       tees = ready.tees;
       few_tees = let g = few.1 in omega (arith, g, many, tees, t.tees.ok.0, t.streams.ok.0);
       ports = ready.ports;
@@ -24,17 +24,17 @@ begin-reply-requires-clause-room c =
       pipes = ready.pipes;
       signals = ready.signals;
       byob_requests = ready.byob_requests;
-      full = ready.full;
+      full = ready.ready.full;
     }
 
 pub perform_effects-requires-clause-room : goal.perform_effects-requires-clause-room
-perform_effects-requires-clause-room c = (call-begins c.args.call c.begin-reply.result c.args.tables.now c.begin-reply.new.tables c.requires.prepared c.requires.resting c.begin-reply.ensures).room
+perform_effects-requires-clause-room c = (call-begins c.args.call c.begin-reply.result c.args.tables.now c.begin-reply.new.tables c.requires.prepared.ready c.requires.resting c.begin-reply.ensures).room
 
 pub perform_effects-requires-clause-turns : goal.perform_effects-requires-clause-turns
-perform_effects-requires-clause-turns c = (call-begins c.args.call c.begin-reply.result c.args.tables.now c.begin-reply.new.tables c.requires.prepared c.requires.resting c.begin-reply.ensures).turns
+perform_effects-requires-clause-turns c = (call-begins c.args.call c.begin-reply.result c.args.tables.now c.begin-reply.new.tables c.requires.prepared.ready c.requires.resting c.begin-reply.ensures).turns
 
 pub perform_effects-requires-clause-kept : goal.perform_effects-requires-clause-kept
-perform_effects-requires-clause-kept c = (call-begins c.args.call c.begin-reply.result c.args.tables.now c.begin-reply.new.tables c.requires.prepared c.requires.resting c.begin-reply.ensures).kept
+perform_effects-requires-clause-kept c = (call-begins c.args.call c.begin-reply.result c.args.tables.now c.begin-reply.new.tables c.requires.prepared.ready c.requires.resting c.begin-reply.ensures).kept
 
 pub overflow_add-tables : goal.overflow_add-tables
 overflow_add-tables c =

@@ -34,13 +34,13 @@ returns-then-not-begin_job-clause-age c =
     omega (arith, same)
 
 pub perform_effects-requires-clause-room : goal.perform_effects-requires-clause-room
-perform_effects-requires-clause-room c = (job-begins c.args.tables.now c.begin_job.new.tables c.requires.prepared c.requires.resting c.begin_job.ensures.begins).room
+perform_effects-requires-clause-room c = (job-begins c.args.tables.now c.begin_job.new.tables c.requires.ready c.requires.resting c.begin_job.ensures.begins).room
 
 pub perform_effects-requires-clause-turns : goal.perform_effects-requires-clause-turns
-perform_effects-requires-clause-turns c = (job-begins c.args.tables.now c.begin_job.new.tables c.requires.prepared c.requires.resting c.begin_job.ensures.begins).turns
+perform_effects-requires-clause-turns c = (job-begins c.args.tables.now c.begin_job.new.tables c.requires.ready c.requires.resting c.begin_job.ensures.begins).turns
 
 pub perform_effects-requires-clause-kept : goal.perform_effects-requires-clause-kept
-perform_effects-requires-clause-kept c = (job-begins c.args.tables.now c.begin_job.new.tables c.requires.prepared c.requires.resting c.begin_job.ensures.begins).kept
+perform_effects-requires-clause-kept c = (job-begins c.args.tables.now c.begin_job.new.tables c.requires.ready c.requires.resting c.begin_job.ensures.begins).kept
 
 pub overflow_add-tables : goal.overflow_add-tables
 overflow_add-tables c =
