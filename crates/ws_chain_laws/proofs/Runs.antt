@@ -12,6 +12,7 @@ use Rattle.ws_flow.specs.Told.{Told, then_told, IsShortOf}
 use Rattle.ws_flow.proofs.Told.{then_assoc, then_empty, short_refl, short_trans, short_same, short_as, short_left, short_right}
 use Rattle.ws_link_laws.specs.Link.{silence}
 use Rattle.ws_reason_laws.specs.Origins.{through_of, through}
+use Rattle.ws_reason_laws.proofs.Portless.{portless-cloned}
 use Rattle.ws_reason_laws.proofs.Quiet.{finish-none}
 use Rattle.ws_laws.proofs.Tables.{no_byte_there}
 use Rattle.ws_link_laws.specs.Laws.{all_leave, run_heard, run_enters}
@@ -22,6 +23,7 @@ use Rattle.ws_wire_laws.proofs.Keeps.{each-map, each-both, each_wiring_keeps}
 use Rattle.ws_chain_laws.specs.Chain.{Origin, Target, behind_at, IsChain, LeavesChain, call_enters, source_of, dest_of}
 use Rattle.ws_chain_laws.specs.Laws.{next_enters, next_heard}
 use Rattle.ws_chain_laws.specs.Opening.{wired_of, chained}
+use Rattle.ws_chain_laws.specs.Outcomes.{past_of}
 use Rattle.ws_chain_laws.specs.Runs.{IsNodes, AreNodes, brought_to, heard_from, EachNodeGoes, EachWiringGoes}
 use Rattle.ws_chain_laws.proofs.Begins.{each_chain_begins, each_wiring_begins}
 use Rattle.ws_chain_laws.proofs.Firsts.{OnlyFirst, chained-first, called-first, worked-first, nodes-streams}
@@ -29,7 +31,7 @@ use Rattle.ws_chain_laws.proofs.Links.{link-at}
 use Rattle.ws_chain_laws.proofs.Keeps.{each_call_keeps_chain, each_job_keeps_chain, each_event_keeps_chain}
 use Rattle.ws_chain_laws.proofs.Nodes.{each_nodes_call_leaves}
 use Rattle.ws_chain_laws.proofs.Outcomes.{each_chain_ends}
-use Rattle.ws_chain_laws.proofs.Teeless.{past-teeless}
+use Rattle.ws_chain_laws.proofs.Teeless.{past-pairless}
 use Rattle.ws_chain_laws.proofs.Portless.{past-portless}
 use Rattle.ws_chain_laws.proofs.Wirings.{gives_at, hears_at, each-numbered, wiring-follows}
 
@@ -129,7 +131,7 @@ each_node_goes origin target n signalled xs few a =
       chain = g.chain;
       quiet = quiet;
       short = λ k l. subst (λ (t : Told Value). IsShortOf (then_told (heard_from origin target n k xs z) (behind_at k (run xs z))) (then_told t (brought_to origin k xs z))) (b.none k l) (g.short k l);
-      rejected = λ r portless o. e.rejected r quiet (λ pair. past-teeless origin target n signalled xs a) (λ clone. past-portless origin target n signalled xs (portless clone) a) o;
+      rejected = λ r portless o. e.rejected r quiet (λ t pair. past-pairless origin target n signalled xs a t) (λ clone. portless-cloned (past_of origin target n signalled xs) (past-portless origin target n signalled xs (portless clone) a)) o;
       fulfilled = e.fulfilled;
     }
 

@@ -1,5 +1,6 @@
 -- A run without a call that tees a stream has no tee, and so has none that opens a chain, nor one of a node.
-use Rattle.std.proofs.Common.{◌≡◌, ℕ, zero, suc, Bool, true, false, List, [], ◌∷◌, ◌++◌, length, Option, Some, None, subst, ◌∙◌, refl}
+use Rattle.std.proofs.Common.{◌≡◌, ℕ, zero, suc, Bool, true, false, List, [], ◌∷◌, ◌++◌, length, Option, Some, None, slice_get, subst, ap, ◌∙◌, refl}
+use Rattle.ws_value.specs.declared.ids.TeeId.{TeeId}
 use Rattle.ws_steps.specs.declared.calls.Call.{Call}
 use Rattle.ws_steps.specs.declared.calls.Call.TheVariants.{Tee, Settle, Enqueue, Finish, Fail, Trigger, Deliver}
 use Rattle.ws_steps.specs.declared.calls.Reply.{Reply}
@@ -13,7 +14,8 @@ use Rattle.ws_steps.specs.declared.port.Side.TheVariants.{Readable as ReadableSi
 use Rattle.ws_steps.specs.Jobs.{job_begun, begin_job}
 use Rattle.ws_steps.specs.Promises.{next_job}
 use Rattle.ws_steps.specs.Run.{Entry, Called, Worked, Heard, run, step}
-use Rattle.ws_steps.specs.Slots.{Slots, empty}
+use Rattle.ws_steps.specs.Slots.{Slots, empty, as_tee, pair_at}
+use Rattle.ws_steps.specs.Tee as tee
 use Rattle.ws_steps.specs.Turns.{performed}
 use Rattle.ws_laws.proofs.EachCall.{each_call}
 use Rattle.ws_link_laws.proofs.Pipelines.{performed-teeless}
@@ -148,7 +150,11 @@ are-teeless (Called c ∷ xs) a = (nodes-teeless c a.0, are-teeless xs a.1)
 are-teeless (Worked ∷ xs) a = are-teeless xs a
 are-teeless (Heard ∷ xs) a = are-teeless xs a
 
-pub past-teeless : (origin : Origin) (target : Target) (n : ℕ) (signalled : Bool) (xs : List Entry) → AreNodes xs → (run (past_of origin target n signalled xs) empty).tees ≡ []
+past-teeless : (origin : Origin) (target : Target) (n : ℕ) (signalled : Bool) (xs : List Entry) → AreNodes xs → (run (past_of origin target n signalled xs) empty).tees ≡ []
 past-teeless origin target n signalled xs a =
     run-teeless (past_of origin target n signalled xs) empty
     (teeless-append (opening origin target n signalled) (Called (piping (signal_of signalled) n) ∷ xs) (opening-teeless origin target n signalled) (tt, are-teeless xs a)) refl
+
+-- so none keeps the reasons of both its branches
+pub past-pairless : (origin : Origin) (target : Target) (n : ℕ) (signalled : Bool) (xs : List Entry) → AreNodes xs → (t : TeeId) → pair_at t (run (past_of origin target n signalled xs) empty) ≡ None
+past-pairless origin target n signalled xs a t = ap (λ (ts : List tee.Slots). tee.pair (as_tee (slice_get ts t.0))) (past-teeless origin target n signalled xs a)

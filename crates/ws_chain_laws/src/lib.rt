@@ -133,8 +133,9 @@ pub fn each_event_is_heard_at_one_link()
 ///
 /// This is said after the opening of a chain (`each_chain_begins`) and any run. The promises of its pipes are those
 /// that they were answered, and are watched. The first part is said where no call of that run brought anything through
-/// a transform stream; in a realm with a tee the reason may be a pair of reasons too, and in one with a port a
-/// DataCloneError. The second is said of every realm.
+/// a transform stream; the reason may be the pair of a tee too, where both its branches were cancelled, and a
+/// DataCloneError, where something that can't be cloned was given to a stream at the end of a port. The second is said
+/// of every realm.
 ///
 /// Of: chains, reasons, finalize.
 pub fn each_chain_ends()

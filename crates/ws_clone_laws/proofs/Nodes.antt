@@ -8,6 +8,7 @@ use Rattle.ws_value.specs.declared.value.Message.{Message}
 use Rattle.ws_value.specs.declared.value.Message.TheVariants.{Pull as PullMessage, Chunk as ChunkMessage, Close as CloseMessage, Error as ErrorMessage}
 use Rattle.ws_value.specs.declared.value.Outcome.TheVariants.{Rejected}
 use Rattle.ws_value.specs.declared.value.Plain.{Plain}
+use Rattle.ws_value.specs.declared.value.Plain.TheVariants.{Pair}
 use Rattle.ws_value.specs.Values.{is_cloneable}
 use Rattle.ws_steps.specs.declared.calls.Answer.TheVariants.{Ok as AnswerOk, Fail as AnswerFail}
 use Rattle.ws_steps.specs.declared.calls.Call.{Call}
@@ -25,7 +26,7 @@ use Rattle.ws_steps.specs.Run.{Entry, Called, Worked, Heard, run}
 use Rattle.ws_steps.specs.Slots.{Slots, empty, most_streams, source_at, writable_at, clones_at}
 use Rattle.ws_steps.specs.Writable.{is_erroring, is_errored}
 use Rattle.ws_reason_laws.specs.Origins.{origins}
-use Rattle.ws_reason_laws.specs.Reasons.{is_pair, failure_of, failures, NeedsPort}
+use Rattle.ws_reason_laws.specs.Reasons.{failure_of, failures, NeedsTee, NeedsPort}
 use Rattle.ws_reason_laws.proofs.Among.{is_among, among_contained, contained_among, same_reason, reason_same, good_among, all-good}
 use Rattle.ws_reason_laws.proofs.Answers.{bad-append}
 use Rattle.ws_reason_laws.proofs.Given.{whole-empty, begin-is, promise-is, known_rejected}
@@ -175,7 +176,7 @@ module _ (origin : Origin) (target : Target) (n : ℕ) (signalled : Bool) (xs : 
   -- of the opening
 
   held-empty : Held rs clone me None empty []
-  held-empty = let w = whole-empty b me in record { moment = w.moment; known = w.known; agenda = tt; opens = w.opens; halves = w.halves; ended = w.ended; erring = w.erring; posted = λ c. refl }
+  held-empty = let w = whole-empty b me in record { moment = w.moment; known = w.known; teeless = refl; agenda = tt; opens = w.opens; halves = w.halves; ended = w.ended; erring = w.erring; posted = λ c. refl }
 
   held-opened : Held rs clone me None first []
   held-opened = run-held rs clone me None (opening origin target n signalled) empty (opening-fine rs clone me origin target n signalled few) held-empty
@@ -291,11 +292,16 @@ nodes-first (Worked ∷ xs) ys a = nodes-first xs ys a
 nodes-first (Heard ∷ xs) ys a = nodes-first xs ys a
 
 -- the reason of a failure is no pair
-plain-one : (r : Plain) (rs : List Plain) → Each_clones rs → Contains rs r → is_pair r ≡ false
-plain-one r rs a c = unpaired_one r (among-clones rs a r (contained_among r rs c))
+plain-one : (r : Plain) (rs : List Plain) → Each_clones rs → Contains rs r → (entries : List Entry) → NeedsTee r entries
+plain-one r rs a c entries t is = let e : is_cloneable (Pair t) ≡ true = ap is_cloneable (sym is) ∙ among-clones rs a r (contained_among r rs c) in cc
+
+-- what isn't the first is among the others
+but_first : (x r : Plain) (rs : List Plain) → (r ≡ x → ⊥) → Contains (x ∷ rs) r → Contains rs r
+but_first x r rs n c = among_contained r rs (by (same_reason x r) refl (contained_among r (x ∷ rs) c))
   where
-    unpaired_one : (x : Plain) → is_cloneable x ≡ true → is_pair x ≡ false
-    unpaired_one x e = grind (arith, e)
+    by : (same : Bool) → same_reason x r ≡ same → (same_reason x r || is_among r rs) ≡ true → is_among r rs ≡ true
+    by true e h = absurd (n (sym (reason_same x r e)))
+    by false e h = rw e at h
 
 pub each_node_error_is_older : EachNodeErrorIsOlder
 each_node_error_is_older origin target n signalled pre rest c up r before after few nodes brings none there side e =
@@ -305,8 +311,9 @@ each_node_error_is_older origin target n signalled pre rest c up r before after 
     let same : past_of origin target n signalled xs ≡ past ++ Called (Deliver c (ErrorMessage up)) ∷ rest =
     sym (append_assoc (opening origin target n signalled) (Called (piping (signal_of signalled) n) ∷ pre) (Called (Deliver c (ErrorMessage up)) ∷ rest)) in
     let posts : posted_in c (run_events (past ++ Called (Deliver c (ErrorMessage up)) ∷ rest) empty) ≡ before ++ ErrorMessage r ∷ after = ap (λ ys. posted_in c (run_events ys empty)) (sym same) ∙ e in
-    let pair = plain-one r (failures xs) (failures-clone xs nodes brings) among in
-    let older : Contains (origins past) r = each_posted_error_is_older past rest c up r before after (λ p. let no : true ≡ false = sym p ∙ pair in cc) there side posts in
+    let other : r ≡ data_clone → ⊥ = λ d. none (subst (λ (x : Plain). Contains (failures xs) x) d among) in
+    let older : Contains (origins past) r =
+    but_first data_clone r (origins past) other (each_posted_error_is_older past rest c up r before after (plain-one r (failures xs) (failures-clone xs nodes brings) among past) there side posts) in
     let quiet = past-none origin target n signalled pre few (each_node_goes origin target n signalled pre few (nodes-first pre _ nodes)).quiet in
-    let port : NeedsPort r past = λ d. absurd (none (subst (λ (x : Plain). Contains (failures xs) x) d among)) in
+    let port : NeedsPort r past = λ d. absurd (other d) in
     subst (λ (ps : List Plain). Contains ps r) (past-fails origin target n signalled pre) (origin-failed past r quiet port older)

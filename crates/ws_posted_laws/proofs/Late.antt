@@ -45,6 +45,7 @@ use Rattle.ws_laws.proofs.TransformDoes.{TransformCauses}
 use Rattle.ws_laws.proofs.Walker.{Stays}
 use Rattle.ws_room_laws.proofs.Turns.{performed-kept}
 use Rattle.ws_reason_laws.proofs.Known.{Badness}
+use Rattle.ws_reason_laws.proofs.Runs.{clones-good}
 use Rattle.ws_tee_port_laws.proofs.ports.Fitting.{IsBegun, call-begun, job-begun}
 use Rattle.ws_tee_port_laws.proofs.ports.Once.{row-leaves, row-mine, by-port}
 use Rattle.ws_tee_port_laws.proofs.ports.Posting.{given, given_first}
@@ -173,7 +174,7 @@ module _ (bad : Badness) (me : PipeId) (c : PortId) (i : StreamId) (up : Plain) 
       (λ away l m. ap (bad_in bad.of) (row-leaves c (OnPort d operation) s away).0 ∙ l.good)
       (λ l m.
       let k = row-mine c operation s (port_at c s) (there s (OnPort c operation ∷ es) l) in
-      let g = given-good bad me c i (clones_at (port_at c s) s) operation (port_at c s) m cloned in
+      let g = given-good bad me c i (clones_at (port_at c s) s) operation (port_at c s) m (clones-good bad.of (clones_at (port_at c s) s) operation cloned) in
       let a = bad_in-append bad.of (posted c s.promises) (given (clones_at (port_at c s) s) operation (port_at c s)) in
       let t = ap (bad_in bad.of) k.told in
       let w = l.good in

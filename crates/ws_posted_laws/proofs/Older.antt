@@ -6,6 +6,7 @@ use Rattle.ws_value.specs.declared.ids.StreamId.{StreamId}
 use Rattle.ws_value.specs.declared.value.Message.TheVariants.{Error as ErrorMessage}
 use Rattle.ws_value.specs.declared.value.Plain.{Plain}
 use Rattle.ws_steps.specs.declared.port.Side.TheVariants.{Writable as WritableSide}
+use Rattle.ws_steps.specs.Cross.{data_clone}
 use Rattle.ws_steps.specs.Histories as histories
 use Rattle.ws_steps.specs.Histories.{run_events}
 use Rattle.ws_steps.specs.PortHistory.{posted_in}
@@ -62,12 +63,15 @@ place-good k n (Some (ReadableStream x)) h = refl
 place-good k n (Some (ByteStream x)) h = refl
 place-good k n (Some (WritableStream x)) h = pend-less k x.pending_abort (omega (arith, h))
 
+good-clone : (past : List Entry) → (but_origins (data_clone ∷ []) past).of data_clone ≡ 0
+good-clone past = refl
+
 module _ (past xs : List Entry) (c : PortId) (up : Plain) (there : has_port c (run past empty) ≡ true) (side : (port_at c (run past empty)).side ≡ WritableSide) where
   abbrev s : Slots
   s = run past empty
 
   abbrev b : Badness
-  b = but_origins [] past
+  b = but_origins (data_clone ∷ []) past
 
   abbrev me : PipeId
   me = record { 0 = length s.pipes }
@@ -76,16 +80,16 @@ module _ (past xs : List Entry) (c : PortId) (up : Plain) (there : has_port c (r
   i = (port_at c s).stream
 
   whole : Whole b me None s []
-  whole = run-whole b me None (Before me) (λ s x xs f. f) (before-new (minds b.of b.half me me) me) [] past (pipe_past s.pipes) (origins-good [] past) (halved-end s) (fair-end [] past) (whole-empty b me)
+  whole = run-whole b me None (Before me) (λ s x xs f. f) (before-new (minds b.of b.half me me) me) [] past (pipe_past s.pipes) (origins-good (data_clone ∷ []) past) (halved-end s) (fair-end (data_clone ∷ []) past) (whole-empty b me)
 
   all-bad : bad_in b.of (posted_in c (run_events (past ++ Called (Deliver c (ErrorMessage up)) ∷ xs) empty)) ≡ 0
   all-bad =
       let w = whole in
       let k : Class = class b me w.known.hands (teed_at s) in
       let g = w.known.good w.known.hands (teed_at s) (λ i h. refl) (teed-at s) in
-      let cloned = (fair-end [] past).1 c _ (here past c there side) in
+      let cloned = good-clone past in
       let o = place-good k i.0 (slice_get s.streams i.0) (stream-there k s.streams i.0 (omega (arith, g))) in
-      let before = none-bad past c there side in
+      let before = none-bad past c there side (data_clone ∷ []) in
       let l = events-less b me c i past empty in
       let start = first-late b me c i up cloned s there (here past c there side) (run-ended past) (omega (arith, before, l)) o in
       let rest = run-late b me c i up cloned xs (step s (Called (Deliver c (ErrorMessage up)))) start in
@@ -96,6 +100,6 @@ module _ (past xs : List Entry) (c : PortId) (up : Plain) (there : has_port c (r
 pub each_posted_error_is_older : EachPostedErrorIsOlder
 each_posted_error_is_older past xs c up r before after need there side e =
     let h = all-bad past xs c up there side in
-    let bad : Plain → ℕ = (but_origins [] past).of in
+    let bad : Plain → ℕ = (but_origins (data_clone ∷ []) past).of in
     let g : bad_in bad (before ++ ErrorMessage r ∷ after) ≡ 0 = subst (λ ms. bad_in bad ms ≡ 0) e h in
-    among_contained r (origins past) (of-origins [] past r need (among-bad bad before r after g))
+    among_contained r (data_clone ∷ origins past) (of-origins (data_clone ∷ []) past r need (among-bad bad before r after g))

@@ -8,7 +8,6 @@ use Rattle.ws_value.specs.declared.ids.TeeId.{TeeId}
 use Rattle.ws_value.specs.declared.value.Message.{Message}
 use Rattle.ws_value.specs.declared.value.Message.TheVariants.{Pull as PullMessage, Chunk as ChunkMessage, Close as CloseMessage, Error as ErrorMessage}
 use Rattle.ws_value.specs.declared.value.Plain.{Plain}
-use Rattle.ws_value.specs.declared.value.Plain.TheVariants.{Pair}
 use Rattle.ws_steps.specs.declared.calls.Call.{Call}
 use Rattle.ws_steps.specs.declared.calls.Reply.{Reply}
 use Rattle.ws_steps.specs.declared.calls.Reply.TheVariants as reply
@@ -47,12 +46,11 @@ use Rattle.ws_steps.specs.Cross as cross
 use Rattle.ws_steps.specs.Transform as transform
 use Rattle.ws_steps.specs.Writable as writable
 use Rattle.ws_laws.proofs.EachCall.{each_call}
-use Rattle.ws_laws.proofs.Shapes.{tee_shape}
 use Rattle.ws_reason_laws.proofs.InTable.{fresh-keeps, fresh-count}
 use Rattle.ws_reason_laws.proofs.Known.{Badness, class, teed_at, teed-at, Known, known-new, known-turn, known-next, known-same}
 use Rattle.ws_reason_laws.proofs.Readables.{effects-append}
 use Rattle.ws_reason_laws.proofs.Rows.{in_signal, signal-there}
-use Rattle.ws_reason_laws.proofs.Teed.{teed-more, teed-last, Paired, tee_last}
+use Rattle.ws_reason_laws.proofs.Teed.{teed-more, teed-last}
 use Rattle.ws_reason_laws.proofs.Weights.{in_reader, in_tee, in_tees, in_port, in_ports, of_message, Class, of_reason, soft, settles, in_effects, in_stream, in_streams, in_pipe, in_pipes, in_signals, of_kind, in_transform, in_transforms, in_slots, in_table, loud, AllGood, count}
 use Rattle.ws_steps.specs.Slots.{ByteStream}
 use Rattle.ws_steps.specs.Bytes as byte
@@ -126,10 +124,9 @@ streams-append k n [] y at e h g =
     let same : at ≡ n = omega (arith, e) in let f : in_stream k n y ≡ 0 = subst (λ (m : ℕ). in_stream k m y ≡ 0) same g in omega (arith, f)
 streams-append k n (x ∷ xs) y at e h g = let f = streams-append k (suc n) xs y at (omega (arith, e)) (omega (arith, h)) g in omega (arith, h, f)
 
-tees-append : (k : Class) (n : ℕ) (xs : List tee.Slots) (y : tee.Slots) (at : ℕ) → at ≡ n + length xs → in_tees k n xs ≡ 0 → in_tee k at y ≡ 0 → in_tees k n (xs ++ y ∷ []) ≡ 0
-tees-append k n [] y at e h g =
-    let same : at ≡ n = omega (arith, e) in let f : in_tee k n y ≡ 0 = subst (λ (m : ℕ). in_tee k m y ≡ 0) same g in omega (arith, f)
-tees-append k n (x ∷ xs) y at e h g = let f = tees-append k (suc n) xs y at (omega (arith, e)) (omega (arith, h)) g in omega (arith, h, f)
+tees-append : (k : Class) (xs : List tee.Slots) (y : tee.Slots) → in_tees k (xs ++ y ∷ []) ≡ in_tees k xs + in_tee k y
+tees-append k [] y = omega arith
+tees-append k (x ∷ xs) y = let h = tees-append k xs y in omega (arith, h)
 
 pipes-append : (k : Class) (n : ℕ) (xs : List pipe.Slots) (y : pipe.Slots) (at : ℕ) → at ≡ n + length xs → in_pipes k n xs ≡ 0 → in_pipe k at y ≡ 0 → in_pipes k n (xs ++ y ∷ []) ≡ 0
 pipes-append k n [] y at e h g =
@@ -150,7 +147,7 @@ signals-append k (x ∷ xs) = let h = signals-append k xs in omega (arith, h)
 
 module _ (bad : Badness) (me : PipeId) (own : Option ℕ) (s : Slots) (known : Known bad me own s []) where
   abbrev Begins : Begun → Type 0
-  Begins b = bad_begun bad b ≡ 0 → of_kinds bad.of b.done.slots.transforms ≡ 0 → Paired bad.of b.done.slots → Known bad me own b.done.slots b.done.caused
+  Begins b = bad_begun bad b ≡ 0 → of_kinds bad.of b.done.slots.transforms ≡ 0 → Known bad me own b.done.slots b.done.caused
 
   -- a soft one and a loud one
   soft_one : (f tees : ℕ → Bool) (n : ℕ) → f n ≡ false → soft (class bad me f tees) n ≡ 0
@@ -340,14 +337,13 @@ module _ (bad : Badness) (me : PipeId) (own : Option ℕ) (s : Slots) (known : K
       omega (arith, g, l0, l1, l2, l3, s0, s1, h, z, e, p))
 
   -- a tee: its promises hand on, and its reader isn't let go of
-  tee-known : (source i j : StreamId) → Paired bad.of (making_calls.make_tee source i j s).done.slots → Known bad me own (making_calls.make_tee source i j s).done.slots (making_calls.make_tee source i j s).done.caused
-  tee-known source i j paired =
+  tee-known : (source i j : StreamId) → Known bad me own (making_calls.make_tee source i j s).done.slots (making_calls.make_tee source i j s).done.caused
+  tee-known source i j =
       let t : Table = s.promises in
       let c0 = fresh-count t in
       let c1 = fresh-count (fresh t) in
       let me_ : TeeId = record { 0 = length s.tees } in
       let x : tee.Slots = tee.set_up source i j (record { 0 = count (fresh t) }) in
-      let pair : bad.of (Pair me_) ≡ 0 = paired me_ (tee_shape x) (tee_last s.tees x) in
       known-turn bad me own s (making_calls.make_tee source i j s).done.slots [] (making_calls.make_tee source i j s).done.caused (λ i. true) known (λ n e. teed-more n s.tees x e) (omega (arith, c0, c1))
       (λ f tees reads news g exact.
       let k : Class = class bad me f tees in
@@ -358,7 +354,7 @@ module _ (bad : Badness) (me : PipeId) (own : Option ℕ) (s : Slots) (known : K
       let r : Stream = ReadableStream (readable.set_up (BranchOf me_ Second) 1 Count) in
       let s0 = streams-append k 0 s.streams w (length s.streams) (omega arith) (omega (arith, g)) refl in
       let s1 = streams-append k 0 (s.streams ++ w ∷ []) r (length (s.streams ++ w ∷ [])) (omega arith) s0 refl in
-      let z = tees-append k 0 s.tees x (length s.tees) (omega arith) (omega (arith, g)) (omega (arith, pair, l1)) in
+      let z = tees-append k s.tees x in
       let p = fresh-keeps k (fresh t) (fresh-keeps k t (omega (arith, g))) in
       omega (arith, g, l0, l1, reader, s1, z, p))
     where
@@ -407,31 +403,31 @@ module _ (bad : Badness) (me : PipeId) (own : Option ℕ) (s : Slots) (known : K
       → (c : Call) → Begins (begin c s)
   known-with piped_behind c =
       each_call Begins c s (record {
-        unchanged = λ reply b n pairs. known;
-        rejected = λ b n pairs. promising-known (λ p. Settle p (Err type_error) ∷ []) false (λ f tees p e. let z = settles_one f tees p.0 type_error e in omega (arith, z));
-        make_tee = λ i e there free untied b n pairs. tee-known i _ _ pairs;
-        make_readable = λ mark size start b n pairs. plain-known _ _ refl refl (λ f tees g. let a = streams-append (class bad me f tees) 0 s.streams (ReadableStream (readable.set_up Host mark size)) (length s.streams) (omega arith) (omega (arith, g)) refl in omega (arith, g, a));
-        make_writable = λ mark size start b n pairs. plain-known _ _ refl refl (λ f tees g. let a = streams-append (class bad me f tees) 0 s.streams (WritableStream (writable.set_up Host mark size)) (length s.streams) (omega arith) (omega (arith, g)) refl in omega (arith, g, a));
-        get_byob = λ i is e b n pairs.
+        unchanged = λ reply b n. known;
+        rejected = λ b n. promising-known (λ p. Settle p (Err type_error) ∷ []) false (λ f tees p e. let z = settles_one f tees p.0 type_error e in omega (arith, z));
+        make_tee = λ i e there free untied b n. tee-known i _ _;
+        make_readable = λ mark size start b n. plain-known _ _ refl refl (λ f tees g. let a = streams-append (class bad me f tees) 0 s.streams (ReadableStream (readable.set_up Host mark size)) (length s.streams) (omega arith) (omega (arith, g)) refl in omega (arith, g, a));
+        make_writable = λ mark size start b n. plain-known _ _ refl refl (λ f tees g. let a = streams-append (class bad me f tees) 0 s.streams (WritableStream (writable.set_up Host mark size)) (length s.streams) (omega arith) (omega (arith, g)) refl in omega (arith, g, a));
+        get_byob = λ i is e b n.
             let c = fresh-count s.promises in
             known-next bad me own s _ [] _ (λ i. false) known refl (omega (arith, c))
             (λ f tees news g.
             let one = reader_one f tees i.0 (count s.promises) (news (count s.promises) (omega arith) (omega (arith, c))) in
             let t = fresh-keeps (class bad me f tees) s.promises (omega (arith, g)) in omega (arith, g, one, t));
-        release_byob = λ l closed i e b n pairs. release_reader-known i _ (is_readable (source_at i s).state);
-        read_into = λ l i closed room element least e h b n pairs. promising-known (λ p. Byte i (PullInto room element (least * element) (PromiseRequest p)) ∷ []) false (λ f tees p e. let z = soft_one f tees p.0 e in omega (arith, z));
-        enqueue_bytes = λ i bytes e is some can b n pairs. plain-known s _ refl refl (λ f tees g. omega (arith, g));
-        finish_bytes = λ i e is can b n pairs. plain-known s _ refl refl (λ f tees g. omega (arith, g));
-        make_request = λ i reply is b n pairs. plain-known _ _ refl refl (λ f tees g. omega (arith, g));
-        respond = λ r i bytes e is can b n pairs. plain-known s _ refl refl (λ f tees g. omega (arith, g));
-        make_bytes = λ mark auto start b n pairs. plain-known _ _ refl refl (λ f tees g. let a = streams-append (class bad me f tees) 0 s.streams (ByteStream (byte.set_up mark auto)) (length s.streams) (omega arith) (omega (arith, g)) refl in omega (arith, g, a));
-        get_reader = λ i e b n pairs.
+        release_byob = λ l closed i e b n. release_reader-known i _ (is_readable (source_at i s).state);
+        read_into = λ l i closed room element least e h b n. promising-known (λ p. Byte i (PullInto room element (least * element) (PromiseRequest p)) ∷ []) false (λ f tees p e. let z = soft_one f tees p.0 e in omega (arith, z));
+        enqueue_bytes = λ i bytes e is some can b n. plain-known s _ refl refl (λ f tees g. omega (arith, g));
+        finish_bytes = λ i e is can b n. plain-known s _ refl refl (λ f tees g. omega (arith, g));
+        make_request = λ i reply is b n. plain-known _ _ refl refl (λ f tees g. omega (arith, g));
+        respond = λ r i bytes e is can b n. plain-known s _ refl refl (λ f tees g. omega (arith, g));
+        make_bytes = λ mark auto start b n. plain-known _ _ refl refl (λ f tees g. let a = streams-append (class bad me f tees) 0 s.streams (ByteStream (byte.set_up mark auto)) (length s.streams) (omega arith) (omega (arith, g)) refl in omega (arith, g, a));
+        get_reader = λ i e b n.
             let c = fresh-count s.promises in
             known-next bad me own s _ [] _ (λ i. false) known refl (omega (arith, c))
             (λ f tees news g.
             let one = reader_one f tees i.0 (count s.promises) (news (count s.promises) (omega arith) (omega (arith, c))) in
             let t = fresh-keeps (class bad me f tees) s.promises (omega (arith, g)) in omega (arith, g, one, t));
-        get_writer = λ i e b n pairs.
+        get_writer = λ i e b n.
             let c = fresh-count s.promises in
             let d = fresh-count (fresh s.promises) in
             known-next bad me own s _ [] _ (λ i. false) known refl (omega (arith, c, d))
@@ -439,31 +435,31 @@ module _ (bad : Badness) (me : PipeId) (own : Option ℕ) (s : Slots) (known : K
             let one = soft_one f tees (count s.promises) (news (count s.promises) (omega arith) (omega (arith, c, d))) in
             let two = soft_one f tees (count (fresh s.promises)) (news (count (fresh s.promises)) (omega (arith, c)) (omega (arith, d))) in
             let t = fresh-keeps (class bad me f tees) (fresh s.promises) (fresh-keeps (class bad me f tees) s.promises (omega (arith, g))) in omega (arith, g, one, two, t));
-        release_reader = λ l closed i e b n pairs. release_reader-known i _ (is_readable (source_at i s).state);
-        release_writer = λ l i w e h b n pairs. release_writer-known i _ (is_pending_at w.ready s.promises) (is_pending_at w.closed (with_renewed s.promises (is_pending_at w.ready s.promises)));
-        cancel = λ reason i b n pairs. promising-known (λ p. Readable i (Cancel reason p) ∷ []) false (λ f tees p e. omega (arith, b));
-        read = λ l i closed e h b n pairs. promising-known (λ p. Readable i (Read (PromiseRequest p)) ∷ []) false (λ f tees p e. let z = soft_one f tees p.0 e in omega (arith, z));
-        write = λ l v i e b n pairs. promising-known (λ p. Writable i (Write v p) ∷ []) false (λ f tees p e. let z = soft_one f tees p.0 e in omega (arith, z));
-        close = λ i b n pairs. promising-known (λ p. Writable i (Close p) ∷ []) false (λ f tees p e. let z = soft_one f tees p.0 e in omega (arith, z));
-        abort = λ reason i e b n pairs. promising-known (λ p. Writable i (Abort reason p) ∷ []) true (λ f tees p e. grind (arith, b, e));
-        enqueue = λ i v e o can b n pairs. plain-known s _ refl refl (λ f tees g. omega (arith, g));
-        enqueue_half = λ i t v e o can b n pairs. plain-known s _ refl refl (λ f tees g. omega (arith, g));
-        fail_half = λ t reason b n pairs. plain-known s _ refl refl (λ f tees g. omega (arith, g, b));
-        terminate = λ t b n pairs. plain-known s _ refl refl (λ f tees g. omega (arith, g, b));
-        make_transform = λ kind m l start b n pairs.
+        release_reader = λ l closed i e b n. release_reader-known i _ (is_readable (source_at i s).state);
+        release_writer = λ l i w e h b n. release_writer-known i _ (is_pending_at w.ready s.promises) (is_pending_at w.closed (with_renewed s.promises (is_pending_at w.ready s.promises)));
+        cancel = λ reason i b n. promising-known (λ p. Readable i (Cancel reason p) ∷ []) false (λ f tees p e. omega (arith, b));
+        read = λ l i closed e h b n. promising-known (λ p. Readable i (Read (PromiseRequest p)) ∷ []) false (λ f tees p e. let z = soft_one f tees p.0 e in omega (arith, z));
+        write = λ l v i e b n. promising-known (λ p. Writable i (Write v p) ∷ []) false (λ f tees p e. let z = soft_one f tees p.0 e in omega (arith, z));
+        close = λ i b n. promising-known (λ p. Writable i (Close p) ∷ []) false (λ f tees p e. let z = soft_one f tees p.0 e in omega (arith, z));
+        abort = λ reason i e b n. promising-known (λ p. Writable i (Abort reason p) ∷ []) true (λ f tees p e. grind (arith, b, e));
+        enqueue = λ i v e o can b n. plain-known s _ refl refl (λ f tees g. omega (arith, g));
+        enqueue_half = λ i t v e o can b n. plain-known s _ refl refl (λ f tees g. omega (arith, g));
+        fail_half = λ t reason b n. plain-known s _ refl refl (λ f tees g. omega (arith, g, b));
+        terminate = λ t b n. plain-known s _ refl refl (λ f tees g. omega (arith, g, b));
+        make_transform = λ kind m l start b n.
             transform-known kind m l start _ _
             (let z = kinds-append bad.of s.transforms (transform.set_up kind (record { 0 = length s.streams }) (record { 0 = length s.streams + 1 }) (record { 0 = count s.promises })) in omega (arith, n, z));
-        finish = λ i b n pairs. plain-known s _ refl refl (λ f tees g. omega (arith, g));
-        fail_readable = λ i reason b n pairs. plain-known s _ refl refl (λ f tees g. omega (arith, g, b));
-        fail_writable = λ i reason b n pairs. plain-known s _ refl refl (λ f tees g. omega (arith, g, b));
-        pipe = λ source dest prevent signal e f l m b n pairs. pipe-known source dest prevent signal;
-        make_signal = λ b n pairs. plain-known _ _ refl refl (λ f tees g. let a = signals-append (class bad me f tees) s.signals in omega (arith, g, a));
-        open_end = λ side b n pairs. let j : StreamId = record { 0 = length s.streams } in started (pipe_calls.add_port j s side) [] j side (port-known j side);
-        send_readable = λ i there free b n pairs. let j : StreamId = record { 0 = length s.streams } in started _ _ j WritableSide (piped_behind j WritableSide i j);
-        send_writable = λ i there free b n pairs. let j : StreamId = record { 0 = length s.streams } in started _ _ j ReadableSide (piped_behind j ReadableSide j i);
-        deliver = λ p m e is b n pairs. plain-known s _ refl refl (λ f tees g. let d = message-good f tees m (omega (arith, b)) in omega (arith, g, d));
-        trigger = λ a reason b n pairs. plain-known s _ refl refl (λ f tees g. omega (arith, g, b));
-        settle = λ h answer p e b n pairs. plain-known _ _ refl refl (λ f tees g. grind (arith, g, b));
+        finish = λ i b n. plain-known s _ refl refl (λ f tees g. omega (arith, g));
+        fail_readable = λ i reason b n. plain-known s _ refl refl (λ f tees g. omega (arith, g, b));
+        fail_writable = λ i reason b n. plain-known s _ refl refl (λ f tees g. omega (arith, g, b));
+        pipe = λ source dest prevent signal e f l m b n. pipe-known source dest prevent signal;
+        make_signal = λ b n. plain-known _ _ refl refl (λ f tees g. let a = signals-append (class bad me f tees) s.signals in omega (arith, g, a));
+        open_end = λ side b n. let j : StreamId = record { 0 = length s.streams } in started (pipe_calls.add_port j s side) [] j side (port-known j side);
+        send_readable = λ i there free b n. let j : StreamId = record { 0 = length s.streams } in started _ _ j WritableSide (piped_behind j WritableSide i j);
+        send_writable = λ i there free b n. let j : StreamId = record { 0 = length s.streams } in started _ _ j ReadableSide (piped_behind j ReadableSide j i);
+        deliver = λ p m e is b n. plain-known s _ refl refl (λ f tees g. let d = message-good f tees m (omega (arith, b)) in omega (arith, g, d));
+        trigger = λ a reason b n. plain-known s _ refl refl (λ f tees g. omega (arith, g, b));
+        settle = λ h answer p e b n. plain-known _ _ refl refl (λ f tees g. grind (arith, g, b));
       })
 
 pub call-known : (bad : Badness) (me : PipeId) (own : Option ℕ) (s : Slots) (known : Known bad me own s []) (c : Call) → Begins bad me own s known (begin c s)

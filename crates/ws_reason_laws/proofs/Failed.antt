@@ -9,7 +9,6 @@ use Rattle.ws_steps.specs.declared.calls.Call.{Call}
 use Rattle.ws_steps.specs.declared.calls.Call.TheVariants.{Pipe}
 use Rattle.ws_steps.specs.declared.calls.Reply.TheVariants.{Promise}
 use Rattle.ws_steps.specs.declared.pipes.Prevent.{Prevent}
-use Rattle.ws_steps.specs.Cross as cross
 use Rattle.ws_steps.specs.Cross.{data_clone}
 use Rattle.ws_steps.specs.Effects.{type_error}
 use Rattle.ws_steps.specs.Promises.{outcome_at}
@@ -17,6 +16,7 @@ use Rattle.ws_steps.specs.Run.{Entry, Called, Worked, Heard, run, reply_to}
 use Rattle.ws_steps.specs.Slots.{Slots, empty, source_at, writable_at}
 use Rattle.ws_reason_laws.specs.Origins.{through, by_ports, origins}
 use Rattle.ws_reason_laws.specs.Reasons.{reason_of, given, failure_of, failures, cancel_of, cancels, IsFree, EachReasonWasGiven, EachReasonWasAFailure, EachStoredErrorWasAFailure, BringsNothing, NeedsTee, NeedsPort}
+use Rattle.ws_reason_laws.specs.Uncloned.{run_uncloned}
 use Rattle.ws_reason_laws.proofs.Among.{same_reason, reason_same, is_among, among_contained, contained_among}
 use Rattle.ws_reason_laws.proofs.Brought.{among-append, through-among, none-through, through-erred, erred-among}
 use Rattle.ws_reason_laws.proofs.Given.{reason-has-an-origin}
@@ -42,19 +42,19 @@ given-run r (Heard ∷ xs) = given-run r xs
 
 module _ (entries : List Entry) (r : Plain) where
   -- no port brought it
-  none-ported : NeedsPort r entries → is_among r (by_ports (run entries empty).ports) ≡ false
-  none-ported need = by (run entries empty).ports need (same_reason data_clone r) refl
+  none-ported : NeedsPort r entries → is_among r (by_ports (run_uncloned entries empty)) ≡ false
+  none-ported need = by (run_uncloned entries empty) need (same_reason data_clone r) refl
     where
-      by : (ps : List cross.Slots) → (r ≡ data_clone → ps ≡ []) → (b : Bool) → same_reason data_clone r ≡ b → is_among r (by_ports ps) ≡ false
-      by [] need b e = refl
-      by (x ∷ xs) need true e = let n = need (sym (reason_same data_clone r e)) in cc
-      by (x ∷ xs) need false e = rw e refl
+      by : (given : Bool) → (r ≡ data_clone → given ≡ false) → (b : Bool) → same_reason data_clone r ≡ b → is_among r (by_ports given) ≡ false
+      by false need b e = refl
+      by true need true e = let n = need (sym (reason_same data_clone r e)) in cc
+      by true need false e = rw e refl
 
   -- an origin is a failure, or came through a transform stream
   pub origin-either : NeedsPort r entries → Contains (origins entries) r → (is_among r (failures entries) || is_among r (through entries empty)) ≡ true
   origin-either need c =
-      let a = among-append r (failures entries) (through entries empty ++ by_ports (run entries empty).ports) in
-      let b = among-append r (through entries empty) (by_ports (run entries empty).ports) in
+      let a = among-append r (failures entries) (through entries empty ++ by_ports (run_uncloned entries empty)) in
+      let b = among-append r (through entries empty) (by_ports (run_uncloned entries empty)) in
       let d = none-ported need in
       either_of _ _ _ _ (sym a ∙ contained_among r (origins entries) c) b d
     where

@@ -3,13 +3,19 @@ pub mod InTable
 pub mod Readables
 pub mod Bytes
 pub mod Erring
-pub mod Teed
+pub mod Pairs
 pub mod Writables
 pub mod Pipes
 pub mod Transforms
 pub mod Tees
+pub mod Teed
 pub mod Ports
 pub mod Rows
+pub mod Sends
+pub mod Cancels
+pub mod Cloned
+pub mod Fair
+pub mod Portless
 pub mod Known
 pub mod Halved
 pub mod Begins
@@ -30,4 +36,6 @@ pub mod FirstPipe
 pub mod Untransformed
 mod Worked
 mod WorkedThrough
+mod WorkedTees
+mod WorkedPorts
 mod WorkedBytes

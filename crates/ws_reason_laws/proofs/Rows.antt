@@ -56,7 +56,7 @@ use Rattle.ws_steps.specs.Effects.{type_error}
 use Rattle.ws_reason_laws.proofs.Bytes.{inner, byte_readable-good, byte-good}
 use Rattle.ws_reason_laws.proofs.Erring.{errs}
 use Rattle.ws_reason_laws.proofs.Readables.{Good, lets_go, effects-append, readable-good}
-use Rattle.ws_reason_laws.proofs.Tees.{tee-good}
+use Rattle.ws_reason_laws.proofs.Tees.{Pairs, tee-good}
 use Rattle.ws_reason_laws.proofs.Ports.{Clones, port-good}
 use Rattle.ws_reason_laws.proofs.Transforms.{transform-good}
 use Rattle.ws_reason_laws.proofs.Weights.{Class, of_result, of_reason, cancelled, of_step, soft, loud, loud_one, settles, in_table, in_request, uses, of_use, gives, of_readable, of_byte, of_writable, of_pipe, of_signal, of_transform, of_tee, of_port, soft_reader, in_reader, in_effect, in_effects, is_errored, in_readable, has_error, in_writable, in_stream, in_streams, in_pipe, in_pipes, in_signals, minds, in_ends, in_transform, in_transforms, in_halves, in_tee, in_tees, in_port, in_ports, in_slots, AllGood, count}
@@ -137,23 +137,19 @@ transform-there k [] i h = refl
 transform-there k (x ∷ xs) zero h = omega (arith, h)
 transform-there k (x ∷ xs) (suc i) h = transform-there k xs i (omega (arith, h))
 
-tees-set : (k : Class) (n : ℕ) (xs : List tee.Slots) (i : ℕ) (y : tee.Slots) (at : ℕ) → at ≡ n + i → in_tees k n xs ≡ 0 → in_tee k at y ≡ 0 → in_tees k n (slice_set xs i y) ≡ 0
-tees-set k n [] i y at e h g = refl
-tees-set k n (x ∷ xs) zero y at e h g =
-    let same : at ≡ n = omega (arith, e) in let f : in_tee k n y ≡ 0 = subst (λ (m : ℕ). in_tee k m y ≡ 0) same g in omega (arith, h, f)
-tees-set k n (x ∷ xs) (suc i) y at e h g = let f = tees-set k (suc n) xs i y at (omega (arith, e)) (omega (arith, h)) g in omega (arith, h, f)
+tees-set : (k : Class) (xs : List tee.Slots) (i : ℕ) (y : tee.Slots) → in_tees k xs ≡ 0 → in_tee k y ≡ 0 → in_tees k (slice_set xs i y) ≡ 0
+tees-set k [] i y h g = refl
+tees-set k (x ∷ xs) zero y h g = omega (arith, h, g)
+tees-set k (x ∷ xs) (suc i) y h g = let e = tees-set k xs i y (omega (arith, h)) g in omega (arith, h, e)
 
-tee-there : (k : Class) (n : ℕ) (xs : List tee.Slots) (i : ℕ) (x : tee.Slots) (at : ℕ) → at ≡ n + i → slice_get xs i ≡ Some x → in_tees k n xs ≡ 0 → in_tee k at x ≡ 0
-tee-there k n [] i x at e f h = cc
-tee-there k n (y ∷ xs) zero x at e f h =
-    let same : n ≡ at = omega (arith, e) in
-    let z : in_tee k n y ≡ 0 = omega (arith, h) in
-    let is : y ≡ x = some_tee y x f in
-    subst (λ (m : ℕ). in_tee k m x ≡ 0) same (subst (λ (v : tee.Slots). in_tee k n v ≡ 0) is z)
-  where
-    some_tee : (v w : tee.Slots) → ◌≡◌ {A = Option tee.Slots} (Some v) (Some w) → v ≡ w
-    some_tee v w e = cc
-tee-there k n (y ∷ xs) (suc i) x at e f h = tee-there k (suc n) xs i x at (omega (arith, e)) f (omega (arith, h))
+abbrev in_option : Class → Option tee.Slots → ℕ
+in_option k None = 0
+in_option k (Some x) = in_tee k x
+
+tee-there : (k : Class) (xs : List tee.Slots) (i : ℕ) → in_tees k xs ≡ 0 → in_option k (slice_get xs i) ≡ 0
+tee-there k [] i h = refl
+tee-there k (x ∷ xs) zero h = omega (arith, h)
+tee-there k (x ∷ xs) (suc i) h = tee-there k xs i (omega (arith, h))
 
 ports-set : (k : Class) (xs : List cross.Slots) (i : ℕ) (y : cross.Slots) → in_ports k xs ≡ 0 → in_port k y ≡ 0 → in_ports k (slice_set xs i y) ≡ 0
 ports-set k [] i y h g = refl
@@ -176,6 +172,7 @@ Fits bad half me (Writable i operation) s = has_writable i s ≡ true → Expect
 Fits bad half me (Pipe p operation) s = (x : pipe.Slots) → slice_get s.pipes p.0 ≡ Some x → Finds (minds bad half me p x.source x.prevent) (ends_at x s) x
 Fits bad half me (Readable i operation) s = (errs (Readable i operation) s ≡ true → bad type_error ≡ 0) × (lets_go operation ≡ true → is_teed i s ≡ false)
 Fits bad half me (Byte i operation) s = errs (Byte i operation) s ≡ true → bad type_error ≡ 0
+Fits bad half me (Tee t operation) s = (x : tee.Slots) → slice_get s.tees t.0 ≡ Some x → Pairs bad t operation x
 Fits bad half me (Port c operation) s = (x : cross.Slots) → slice_get s.ports c.0 ≡ Some x → Clones bad (clones_at x s) operation
 Fits bad half me (CancelAlgorithm i r p) s = is_half (owner_at i s) ≡ true → half i.0 ≡ true
 Fits bad half me _ s = Unit {0}
@@ -367,15 +364,15 @@ module _ (k : Class) (m : ℕ) where
       all_loud : (i : ℕ) → k.hands i ≡ true → loud k i ≡ 0
       all_loud i e = grind (arith, e)
 
-  tee-row : (t : TeeId) (operation : TeeOperation) (s : Slots) (o : Option tee.Slots) → slice_get s.tees t.0 ≡ o → in_slots k s ≡ 0 → of_tee k operation ≡ 0 → News s true
+  tee-row : (t : TeeId) (operation : TeeOperation) (s : Slots) (o : Option tee.Slots) → slice_get s.tees t.0 ≡ o → ((x : tee.Slots) → o ≡ Some x → Pairs k.bad t operation x) → in_slots k s ≡ 0 → of_tee k operation ≡ 0 → News s true
       → Until (on_tee_at (tee_operation t operation) t s o)
-  tee-row t operation s None e h f l q = omega (arith, h)
-  tee-row t operation s (Some x) e h f l q =
-      let there : in_tee k t.0 x ≡ 0 = tee-there k 0 s.tees t.0 x t.0 (omega arith) e (omega (arith, h)) in
+  tee-row t operation s None e n h f l q = omega (arith, h)
+  tee-row t operation s (Some x) e n h f l q =
+      let there : in_tee k x ≡ 0 = subst (λ (o : Option tee.Slots). in_option k o ≡ 0) e (tee-there k s.tees t.0 (omega (arith, h))) in
       let a : tee.Acts = record { slots = x; out = found s } in
       let b : tee.Acts = tee_operation t operation a in
-      let g = tee-good k t m operation a f (λ i n z. all_loud i (l i n z)) (omega (arith, h, there)) q in
-      let z = tees-set k 0 s.tees t.0 b.slots t.0 (omega arith) (omega (arith, h)) (omega (arith, g)) in
+      let g = tee-good k t m operation a (n x refl) f (λ i n z. all_loud i (l i n z)) (omega (arith, h, there)) q in
+      let z = tees-set k s.tees t.0 b.slots (omega (arith, h)) (omega (arith, g)) in
       omega (arith, h, g, z)
     where
       all_loud : (i : ℕ) → k.hands i ≡ true → loud k i ≡ 0
@@ -499,7 +496,7 @@ module _ (k : Class) (m : ℕ) where
   row-good (Pipe p operation) s h f x gone l q = pipe-row p operation s (slice_get s.pipes p.0) refl h f x l q
   row-good (Signal a operation) s h f x gone l q = signal-row a operation s (slice_get s.signals a.0) refl h f
   row-good (Transform t operation) s h f x gone l q = transform-row t operation s (slice_get s.transforms t.0) refl h f l q
-  row-good (Tee t operation) s h f x gone l q = tee-row t operation s (slice_get s.tees t.0) refl h f l q
+  row-good (Tee t operation) s h f x gone l q = tee-row t operation s (slice_get s.tees t.0) refl x h f l q
   row-good (Port t operation) s h f x gone l q = port-row t operation s (slice_get s.ports t.0) refl x h f l q
   row-good (StartAlgorithm i step start) s h f x gone l q = start-row i step s start h f l q
   row-good (PullAlgorithm i) s h f x gone l q = promises-row s s.promises s.hosts _ h (omega (arith, h)) (pulls i (React (ReadablePull i) None) (owner_at i s) refl)

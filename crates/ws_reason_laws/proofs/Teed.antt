@@ -1,33 +1,38 @@
--- Which streams tees read: that stays as effects are performed, a stream that one reads is let go of by none, and a run's end tells of the tees
--- and the ports that were there before.
-use Rattle.std.proofs.Common.{◌≡◌, ℕ, ◌≤◌, Bool, true, false, ◌||◌, nat_eq, List, [], ◌∷◌, ◌++◌, length, map, Some, slice_get, refl, sym, ap, ◌∙◌, arith}
+-- Which streams tees read: that stays as effects are performed, a stream that one reads is let go of by none, and a run's end tells of the reasons
+-- that tees kept before.
+use Rattle.std.proofs.Common.{◌≡◌, ℕ, zero, suc, ◌≤◌, Bool, true, false, ◌||◌, nat_eq, is_none, List, [], ◌∷◌, ◌++◌, length, map, Option, Some, None, slice_get, slice_set, refl, sym, ap, subst, ◌∙◌, arith}
+use Rattle.ws_value.specs.declared.ids.PromiseId.{PromiseId}
 use Rattle.ws_value.specs.declared.ids.StreamId.{StreamId}
 use Rattle.ws_value.specs.declared.ids.TeeId.{TeeId}
-use Rattle.ws_value.specs.declared.ids.PortId.{PortId}
 use Rattle.ws_value.specs.declared.value.Plain.{Plain}
 use Rattle.ws_value.specs.declared.value.Plain.TheVariants.{Pair}
-use Rattle.ws_steps.specs.declared.calls.Call.{Call}
+use Rattle.ws_steps.specs.declared.calls.Reply.{Reply}
+use Rattle.ws_steps.specs.declared.calls.Reply.TheVariants.{Promise as ReplyPromise}
 use Rattle.ws_steps.specs.declared.effects.Effect.{Effect}
-use Rattle.ws_steps.specs.declared.effects.Effect.TheVariants.{Readable}
+use Rattle.ws_steps.specs.declared.effects.Effect.TheVariants.{Readable, Tee as OnTee}
 use Rattle.ws_steps.specs.declared.readable.ReadableOperation.{ReadableOperation}
-use Rattle.ws_steps.specs.declared.readable.ReadableOperation.TheVariants.{ReleaseReader}
-use Rattle.ws_steps.specs.Calls.{begin}
-use Rattle.ws_steps.specs.Run.{Entry, Called, step, run}
-use Rattle.ws_steps.specs.Slots.{Slots, reads_any, is_teed}
-use Rattle.ws_steps.specs.Cross.{data_clone}
+use Rattle.ws_steps.specs.declared.readable.ReadableOperation.TheVariants.{Cancel, ReleaseReader}
+use Rattle.ws_steps.specs.declared.tee.Half.{Half}
+use Rattle.ws_steps.specs.declared.tee.TeeOperation.{TeeOperation}
+use Rattle.ws_steps.specs.declared.tee.TeeOperation.TheVariants as names
+use Rattle.ws_steps.specs.Calls.{named}
+use Rattle.ws_steps.specs.Operations.{tee_operation}
+use Rattle.ws_steps.specs.Promises.{next_id, fresh}
+use Rattle.ws_steps.specs.Run.{Entry, run}
+use Rattle.ws_steps.specs.Slots.{Slots, reads_any, is_teed, as_tee, found, on_tee_at, pair_at}
 use Rattle.ws_steps.specs.Tee as tee
+use Rattle.ws_steps.specs.Tee.{causing, pair, pair_of, reason_of, with_reason, with_slots, is_wanted, resolve_cancel, cancel_source, cancel_by, cancel_branch}
 use Rattle.ws_steps.specs.Turns.{row}
-use Rattle.ws_laws.proofs.Ended.{PortShape, port_shapes}
-use Rattle.ws_laws.proofs.Halves.{step-tee_shapes, run-among_tees}
-use Rattle.ws_laws.proofs.Shapes.{TeeShape, tee_shape, tee_shapes, row-tee_shapes}
-use Rattle.ws_laws.proofs.Tables.{is_same-refl}
-use Rattle.ws_readable_laws.proofs.Ports.{run-among_ports, called-port_shapes}
+use Rattle.ws_laws.proofs.Shapes.{TeeShape, tee_shape, row-tee_shapes}
+use Rattle.ws_laws.proofs.Tables.{either, is_same-refl}
 use Rattle.ws_pipe_laws.specs.pipes.PipeReads.{one_if}
 use Rattle.ws_pipe_laws.specs.locks.Locks.{Reading, in_tees}
 use Rattle.ws_pipe_laws.proofs.locks.Agenda.{goes}
 use Rattle.ws_pipe_laws.proofs.locks.Rows.{is_there}
 use Rattle.ws_pipe_laws.proofs.locks.Runs.{Locked}
+use Rattle.ws_reason_laws.proofs.Pairs.{row-keeps, run-keeps}
 use Rattle.ws_reason_laws.proofs.Readables.{lets_go}
+use Rattle.ws_reason_laws.proofs.Tees.{Pairs}
 
 -- the tees' sources are told by their shapes
 
@@ -85,42 +90,60 @@ pub unteed : (i : StreamId) (operation : ReadableOperation) (s : Slots) (es : Li
 unteed i ReleaseReader s es k r = goes-unteed i s es k
 unteed i operation s es k r = grind (arith, r)
 
--- the pair of each tee that is there isn't bad
+-- the pair of each tee that keeps the reasons of both its branches isn't bad
 
 abbrev pub Paired : (Plain → ℕ) → Slots → Type 0
-Paired bad s = (t : TeeId) (x : TeeShape) → slice_get (tee_shapes s) t.0 ≡ Some x → bad (Pair t) ≡ 0
+Paired bad s = (t : TeeId) (q : Plain × Plain) → pair_at t s ≡ Some q → bad (Pair t) ≡ 0
 
--- that is so before a step, and as it begins
+-- that is so before a step, before an effect, and before its reply is named, where it is so afterwards
 
-paired-before : (bad : Plain → ℕ) (xs : List Entry) (s : Slots) → Paired bad (run xs s) → Paired bad s
-paired-before bad xs s h t x e = h t x (run-among_tees xs s t x e)
+pub paired-before : (bad : Plain → ℕ) (xs : List Entry) (s : Slots) → Paired bad (run xs s) → Paired bad s
+paired-before bad xs s h t q e = h t q (run-keeps q t xs s e)
 
-paired-begun : (bad : Plain → ℕ) (c : Call) (xs : List Entry) (s : Slots) → Paired bad (run (Called c ∷ xs) s) → Paired bad (begin c s).done.slots
-paired-begun bad c xs s h t x e =
-    paired-before bad xs (step s (Called c)) h t x (ap (λ (zs : List TeeShape). slice_get zs t.0) (step-tee_shapes (Called c) s) ∙ e)
+pub paired-row : (bad : Plain → ℕ) (e : Effect) (s : Slots) → Paired bad (row e s).slots → Paired bad s
+paired-row bad e s h t q is = h t q (row-keeps q t e s is)
 
--- a DataCloneError isn't bad where there is a port
+pub paired-named : (bad : Plain → ℕ) (reply : Reply) (s : Slots) → Paired bad (named reply s) → Paired bad s
+paired-named bad (ReplyPromise p) s h = h
+paired-named bad _ s h = h
 
-abbrev pub Ported : (Plain → ℕ) → Slots → Type 0
-Ported bad s = (c : PortId) (x : PortShape) → slice_get (port_shapes s) c.0 ≡ Some x → bad data_clone ≡ 0
+-- so the pair isn't bad with which a tee cancels its source
 
-pub ported-before : (bad : Plain → ℕ) (xs : List Entry) (s : Slots) → Ported bad (run xs s) → Ported bad s
-ported-before bad xs s h c x e = h c x (run-among_ports xs s c x e)
+both-kept : (x : tee.Slots) → is_wanted x ≡ false → (q : Plain × Plain) × (pair x ≡ Some q)
+both-kept x e = by x.reason1 x.reason2 e
+  where
+    by : (first second : Option Plain) → (is_none first || is_none second) ≡ false → (q : Plain × Plain) × (pair_of first second ≡ Some q)
+    by None second e = cc
+    by (Some r) None e = cc
+    by (Some r) (Some p) e = ((r, p), refl)
 
-pub ported-begun : (bad : Plain → ℕ) (c : Call) (xs : List Entry) (s : Slots) → Ported bad (run (Called c ∷ xs) s) → Ported bad (begin c s).done.slots
-ported-begun bad c xs s h p x e = ported-before bad xs (step s (Called c)) h p x (ap (λ (zs : List PortShape). slice_get zs p.0) (called-port_shapes c s) ∙ e)
+resolved-pair : (p : PromiseId) (a : tee.Acts) → pair (resolve_cancel p a).slots ≡ pair a.slots
+resolved-pair p a = either (λ (z : tee.Acts). pair z.slots ≡ pair a.slots) a.slots.answered a _ (λ e. refl) (λ e. refl)
 
--- both
+cancelled-pair : (me : TeeId) (half : Half) (r : Plain) (a : tee.Acts) (old : Option Plain) → old ≡ None → pair (cancel_by me half r a old).slots ≡ pair (with_reason half r a.slots)
+cancelled-pair me half r a (Some p) none = cc
+cancelled-pair me half r a None none =
+    let b : tee.Acts = with_slots (with_reason half r a.slots) a in
+    let p : PromiseId = next_id b.out.promises in
+    let c : tee.Acts = causing (Readable b.slots.source (Cancel (Pair me) p) ∷ []) (record b { out = record b.out { promises = fresh b.out.promises } }) in
+    either (λ (z : tee.Acts). pair z.slots ≡ pair b.slots) (is_wanted b.slots) b (cancel_source me b) (λ e. refl) (λ e. resolved-pair p c)
 
-abbrev pub Fair : (Plain → ℕ) → Slots → Type 0
-Fair bad s = Paired bad s × Ported bad s
+place_same : (xs : List tee.Slots) (n : ℕ) (x y : tee.Slots) → slice_get xs n ≡ Some x → slice_get (slice_set xs n y) n ≡ Some y
+place_same [] n x y e = cc
+place_same (z ∷ xs) zero x y e = refl
+place_same (z ∷ xs) (suc n) x y e = place_same xs n x y e
 
-pub fair-before : (bad : Plain → ℕ) (xs : List Entry) (s : Slots) → Fair bad (run xs s) → Fair bad s
-fair-before bad xs s h = (paired-before bad xs s h.0, ported-before bad xs s h.1)
+row-pair : (t : TeeId) (operation : TeeOperation) (s : Slots) (x : tee.Slots) → slice_get s.tees t.0 ≡ Some x → pair_at t (row (OnTee t operation) s).slots ≡ pair (tee_operation t operation (record { slots = x; out = found s })).slots
+unfolding row
+row-pair t operation s x e =
+    let b : tee.Slots = (tee_operation t operation (record { slots = x; out = found s })).slots in
+    subst (λ (o : Option tee.Slots). pair (as_tee (slice_get (on_tee_at (tee_operation t operation) t s o).slots.tees t.0)) ≡ pair b) (sym e)
+    (ap (λ (o : Option tee.Slots). pair (as_tee o)) (place_same s.tees t.0 x b e))
 
-pub fair-begun : (bad : Plain → ℕ) (c : Call) (xs : List Entry) (s : Slots) → Fair bad (run (Called c ∷ xs) s) → Fair bad (begin c s).done.slots
-fair-begun bad c xs s h = (paired-begun bad c xs s h.0, ported-begun bad c xs s h.1)
-
-pub tee_last : (xs : List tee.Slots) (x : tee.Slots) → slice_get (map tee_shape (xs ++ x ∷ [])) (length xs) ≡ Some (tee_shape x)
-tee_last [] x = refl
-tee_last (y ∷ xs) x = tee_last xs x
+pub tee-fits : (bad : Plain → ℕ) (t : TeeId) (operation : TeeOperation) (s : Slots) → Paired bad (row (OnTee t operation) s).slots → (x : tee.Slots) → slice_get s.tees t.0 ≡ Some x → Pairs bad t operation x
+unfolding cancel_branch
+tee-fits bad t (names.CancelBranch half r u) s h x e = λ none both.
+    let a : tee.Acts = record { slots = x; out = found s } in
+    let kept = both-kept (with_reason half r x) both in
+    h t kept.0 (row-pair t (names.CancelBranch half r u) s x e ∙ (cancelled-pair t half r a (reason_of half x) none ∙ kept.1))
+tee-fits bad t operation s h x e = tt

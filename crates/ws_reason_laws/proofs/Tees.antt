@@ -1,5 +1,5 @@
 -- Operations of a tee keep that nothing bad stands in it, in the promises and in what they cause, where its new promises hand on, and the pair
--- with which it cancels its source isn't bad.
+-- isn't bad where it cancels its source with that.
 use Rattle.std.proofs.Common.{◌≡◌, ℕ, ◌+◌, ◌≤◌, ◌<◌, Bool, true, false, not, ◌&&◌, List, [], ◌∷◌, ◌++◌, Option, Some, None, Result, Ok, Err, refl, arith}
 use Rattle.ws_value.specs.declared.ids.PromiseId.{PromiseId}
 use Rattle.ws_value.specs.declared.ids.StreamId.{StreamId}
@@ -32,10 +32,15 @@ use Rattle.ws_reason_laws.proofs.Weights.{Class, cancelled, loud, settles, of_us
 abbrev size : Acts → ℕ
 size a = count a.out.promises
 
+-- the pair isn't bad where a branch is cancelled and the other one was
+abbrev pub Pairs : (Plain → ℕ) → TeeId → TeeOperation → Slots → Type 0
+Pairs bad me (names.CancelBranch half r u) x = reason_of half x ≡ None → is_wanted (with_reason half r x) ≡ false → bad (Pair me) ≡ 0
+Pairs bad me _ x = Unit {0}
+
 module _ (k : Class) (me : TeeId) (m : ℕ) where
   -- nothing bad stands in it
   abbrev Good : Acts → Type 0
-  Good a = in_tee k me.0 a.slots + (in_table k a.out.promises + in_effects k a.out.effects) ≡ 0
+  Good a = in_tee k a.slots + (in_table k a.out.promises + in_effects k a.out.effects) ≡ 0
 
   -- with `m` promises after it
   abbrev Ending : Acts → Type 0
@@ -115,24 +120,24 @@ module _ (k : Class) (me : TeeId) (m : ℕ) where
   resolve-size : (p : PromiseId) (a : Acts) → size (resolve_cancel p a) ≡ size a
   resolve-size p a = either (λ (z : Acts). size z ≡ size a) a.slots.answered a _ (λ e. refl) (λ e. refl)
 
-  paired : (a : Acts) → Good a → (i : StreamId) → cancelled k i (Pair me) ≡ 0
-  paired a h i = let b : k.bad (Pair me) ≡ 0 = omega (arith, h) in grind (arith, b)
+  paired : k.bad (Pair me) ≡ 0 → (i : StreamId) → cancelled k i (Pair me) ≡ 0
+  paired b i = grind (arith, b)
 
-  source-good : (a : Acts) → Louds (size a) → Good a → Ending (cancel_source me a)
-  source-good a l h q =
+  source-good : (a : Acts) → k.bad (Pair me) ≡ 0 → Louds (size a) → Good a → Ending (cancel_source me a)
+  source-good a pair l h q =
       let p : PromiseId = next_id a.out.promises in
       let b : Acts = record a { out = record a.out { promises = fresh a.out.promises } } in
       let c : Acts = causing (OnReadable b.slots.source (Cancel (Pair me) p) ∷ []) b in
       let n = resolve-size p c in
       let g = fresh-count a.out.promises in
       let f = fresh-keeps k a.out.promises (omega (arith, h)) in
-      let z = paired a h b.slots.source in
+      let z = paired pair b.slots.source in
       let one : loud k (size a) ≡ 0 = l (size a) (omega arith) (omega (arith, g, n, q)) in
       let e : Good b = omega (arith, h, f) in
       resolve-good p c one (causing-good b (OnReadable b.slots.source (Cancel (Pair me) p) ∷ []) (omega (arith, z)) e)
 
-  both-good : (a : Acts) → Louds (size a) → Good a → Ending (if_both me a)
-  both-good a l h = either Ending (is_wanted a.slots) a (cancel_source me a) (λ e q. h) (λ e. source-good a l h)
+  both-good : (a : Acts) → (is_wanted a.slots ≡ false → k.bad (Pair me) ≡ 0) → Louds (size a) → Good a → Ending (if_both me a)
+  both-good a pair l h = either Ending (is_wanted a.slots) a (cancel_source me a) (λ e q. h) (λ e. source-good a (pair e) l h)
 
   reason-good : (half : Half) (r : Plain) (a : Acts) → Good a → Good (with_slots (with_reason half r a.slots) a)
   reason-good half r a h = grind (arith, h)
@@ -140,15 +145,15 @@ module _ (k : Class) (me : TeeId) (m : ℕ) where
   reason-cancel : (half : Half) (r : Plain) (s : Slots) → (with_reason half r s).cancel ≡ s.cancel
   reason-cancel half r s = grind arith
 
-  cancel-good : (half : Half) (r : Plain) (a : Acts) (old : Option Plain) → Louds (size a) → Good a → Ending (cancel_by me half r a old)
-  cancel-good half r a (Some old) l h q = h
-  cancel-good half r a None l h q = both-good (with_slots (with_reason half r a.slots) a) l (reason-good half r a h) q
+  cancel-good : (half : Half) (r : Plain) (a : Acts) (old : Option Plain) → (old ≡ None → is_wanted (with_reason half r a.slots) ≡ false → k.bad (Pair me) ≡ 0) → Louds (size a) → Good a → Ending (cancel_by me half r a old)
+  cancel-good half r a (Some old) pair l h q = h
+  cancel-good half r a None pair l h q = both-good (with_slots (with_reason half r a.slots) a) (pair refl) l (reason-good half r a h) q
 
-  branch-good : (half : Half) (r : Plain) (u : Use) (a : Acts) → of_use k u ≡ 0 → Louds (size a) → Good a → Ending (cancel_branch me half r u a)
+  branch-good : (half : Half) (r : Plain) (u : Use) (a : Acts) → Pairs k.bad me (names.CancelBranch half r u) a.slots → of_use k u ≡ 0 → Louds (size a) → Good a → Ending (cancel_branch me half r u a)
   unfolding cancel_branch
-  branch-good half r u a z l h q =
+  branch-good half r u a pair z l h q =
       let w = used a.slots.cancel.0 u (omega (arith, h)) z in
-      causing-good (cancel_by me half r a (reason_of half a.slots)) (Give (This a.slots.cancel) u ∷ []) (omega (arith, w)) (cancel-good half r a (reason_of half a.slots) l h q)
+      causing-good (cancel_by me half r a (reason_of half a.slots)) (Give (This a.slots.cancel) u ∷ []) (omega (arith, w)) (cancel-good half r a (reason_of half a.slots) pair l h q)
 
   settled-good : (o : Result Plain Plain) (a : Acts) → of_tee k (names.ReaderSettled o) ≡ 0 → Good a → Good (reader_settled o a)
   unfolding reader_settled
@@ -157,13 +162,13 @@ module _ (k : Class) (me : TeeId) (m : ℕ) where
       let es : List Effect = OnReadable a.slots.branch1 (Error r) ∷ OnReadable a.slots.branch2 (Error r) ∷ [] in
       fulfil-good (causing es a) (causing-good a es (omega (arith, z)) h)
 
-  pub tee-good : (operation : TeeOperation) (a : Acts) → of_tee k operation ≡ 0 → Louds (size a) → Good a → Ending (tee_operation me operation a)
+  pub tee-good : (operation : TeeOperation) (a : Acts) → Pairs k.bad me operation a.slots → of_tee k operation ≡ 0 → Louds (size a) → Good a → Ending (tee_operation me operation a)
   unfolding pull_branch keep_chunk source_closed source_errored hand_chunk handed
-  tee-good names.PullBranch a f l h = λ q. pull-good a a.slots.phase h
-  tee-good (names.KeepChunk v) a f l h = λ q. let n = micro-keeps k (TeeHand me) a.out.promises (omega (arith, h)) in omega (arith, h, n)
-  tee-good names.SourceClosed a f l h = λ q. close-good a a.slots.phase h
-  tee-good names.SourceErrored a f l h = λ q. h
-  tee-good names.HandChunk a f l h = λ q. hand-good a a.slots.held h
-  tee-good names.Handed a f l h = λ q. again-good (with_slots (record a.slots { phase = rested a.slots.phase }) a) a.slots.read_again h
-  tee-good (names.CancelBranch half r u) a f l h = branch-good half r u a f l h
-  tee-good (names.ReaderSettled o) a f l h = λ q. settled-good o a f h
+  tee-good names.PullBranch a n f l h = λ q. pull-good a a.slots.phase h
+  tee-good (names.KeepChunk v) a n f l h = λ q. let kept = micro-keeps k (TeeHand me) a.out.promises (omega (arith, h)) in omega (arith, h, kept)
+  tee-good names.SourceClosed a n f l h = λ q. close-good a a.slots.phase h
+  tee-good names.SourceErrored a n f l h = λ q. h
+  tee-good names.HandChunk a n f l h = λ q. hand-good a a.slots.held h
+  tee-good names.Handed a n f l h = λ q. again-good (with_slots (record a.slots { phase = rested a.slots.phase }) a) a.slots.read_again h
+  tee-good (names.CancelBranch half r u) a n f l h = branch-good half r u a n f l h
+  tee-good (names.ReaderSettled o) a n f l h = λ q. settled-good o a f h

@@ -11,7 +11,6 @@ use Rattle.ws_value.specs.declared.value.Message.TheVariants.{Error as ErrorMess
 use Rattle.ws_value.specs.declared.value.Outcome.{Outcome}
 use Rattle.ws_value.specs.declared.value.Outcome.TheVariants.{Rejected}
 use Rattle.ws_value.specs.declared.value.Plain.{Plain}
-use Rattle.ws_value.specs.declared.value.Plain.TheVariants.{Pair}
 use Rattle.ws_steps.specs.declared.byte.ByteOperation.{ByteOperation}
 use Rattle.ws_steps.specs.declared.byte.ByteOperation.TheVariants as byte_names
 use Rattle.ws_steps.specs.declared.effects.Effect.{Effect}
@@ -370,13 +369,13 @@ abbrev pub in_halves : Class → Halves → ℕ
 in_halves k halves =
     (if is_errored halves.readable_state then k.bad halves.readable_error else 0) + (if has_error halves.writable_state then k.bad halves.writable_error else 0)
 
--- tee n: it cancels its source with a pair, and its cancel promise is settled as that is
-abbrev pub in_tee : Class → ℕ → tee.Slots → ℕ
-in_tee k n x = k.bad (Pair (record { 0 = n })) + loud k x.cancel.0
+-- a tee: its cancel promise is settled as the cancel of its source is
+abbrev pub in_tee : Class → tee.Slots → ℕ
+in_tee k x = loud k x.cancel.0
 
-abbrev pub in_tees : Class → ℕ → List tee.Slots → ℕ
-in_tees k n [] = 0
-in_tees k n (x ∷ xs) = in_tee k n x + in_tees k (suc n) xs
+abbrev pub in_tees : Class → List tee.Slots → ℕ
+in_tees k [] = 0
+in_tees k (x ∷ xs) = in_tee k x + in_tees k xs
 
 -- a port: its backpressure promise hands on
 abbrev pub in_port : Class → cross.Slots → ℕ
@@ -388,7 +387,7 @@ in_ports k (x ∷ xs) = in_port k x + in_ports k xs
 
 abbrev pub in_slots : Class → Slots → ℕ
 in_slots k s =
-    in_streams k 0 s.streams + (in_pipes k 0 s.pipes + (in_signals k s.signals + (in_transforms k s.transforms + (in_tees k 0 s.tees + (in_ports k s.ports + in_table k s.promises)))))
+    in_streams k 0 s.streams + (in_pipes k 0 s.pipes + (in_signals k s.signals + (in_transforms k s.transforms + (in_tees k s.tees + (in_ports k s.ports + in_table k s.promises)))))
 
 -- nothing bad stands in the slots, nor in what is still to be performed
 abbrev pub AllGood : Class → Slots → List Effect → Type 0

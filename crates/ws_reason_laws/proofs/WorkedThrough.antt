@@ -23,10 +23,10 @@ use Rattle.ws_reason_laws.specs.Origins.{through}
 use Rattle.ws_reason_laws.specs.Reasons.{failures}
 use Rattle.ws_reason_laws.proofs.FirstPipe.{s0, s1}
 
-abbrev s2 : StreamId
+abbrev pub s2 : StreamId
 s2 = record { 0 = 2 }
 
-abbrev s3 : StreamId
+abbrev pub s3 : StreamId
 s3 = record { 0 = 3 }
 
 abbrev not_back : Prevent
@@ -36,11 +36,11 @@ abbrev nothing_prevented : Prevent
 nothing_prevented = record { close = false; abort = false; cancel = false }
 
 -- a pipe into a transform stream of the host's. Its promise has the number 8
-abbrev into : List Entry
+abbrev pub into : List Entry
 into = Called (MakeReadable 0 Count Now) ∷ Called (MakeTransform Host 1 0 Now) ∷ Called (Pipe s0 s1 not_back None) ∷ []
 
 -- the host settles one of its algorithms well
-abbrev settles : HostId → List Entry
+abbrev pub settles : HostId → List Entry
 settles h = jobs_in_a_row 9 ++ Called (Settle h Ok) ∷ jobs_in_a_row 9
 
 -- the transform stream is terminated: the pipe rejects with a TypeError, and nothing failed

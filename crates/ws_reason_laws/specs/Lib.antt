@@ -1,2 +1,3 @@
+pub mod Uncloned
 pub mod Reasons
 pub mod Origins

@@ -26,6 +26,7 @@ use Rattle.ws_steps.specs.Slots.{Slots, most_streams, empty, has_source, has_wri
 use Rattle.ws_steps.specs.Writable.{is_closed, is_closing, is_erroring, is_errored}
 use Rattle.ws_steps.specs.WritableLooks as writable_looks
 use Rattle.ws_reason_laws.specs.Reasons.{NeedsTee, failures, erred_by}
+use Rattle.ws_reason_laws.specs.Uncloned.{run_uncloned}
 
 -- whether a stream performs the algorithms of a transform stream
 abbrev pub is_half : Owner → Bool
@@ -77,14 +78,13 @@ through (Called c ∷ xs) s = through_of c s ++ through xs (step s (Called c))
 through (Worked ∷ xs) s = through xs (step s Worked)
 through (Heard ∷ xs) s = through xs (step s Heard)
 
--- a DataCloneError comes of the end of a port: of a write of a chunk that can't be cloned, and of a cancel or an abort whose reason can't be
-abbrev pub by_ports : List cross.Slots → List Plain
-by_ports [] = []
-by_ports (x ∷ xs) = cross.data_clone ∷ []
+-- a DataCloneError comes of the end of a port, where a value or a reason that can't be cloned was given to its stream
+abbrev pub by_ports : Bool → List Plain
+by_ports given = if given then cross.data_clone ∷ [] else []
 
 -- the failures of a run, what its calls brought besides, and what its ports bring
 abbrev pub origins : List Entry → List Plain
-origins entries = failures entries ++ (through entries empty ++ by_ports (run entries empty).ports)
+origins entries = failures entries ++ (through entries empty ++ by_ports (run_uncloned entries empty))
 
 -- two streams that are there and unlocked
 pub record AreUnlocked (i j : StreamId) (s : Slots) : Type 0 where

@@ -1,13 +1,14 @@
 -- Where the reason comes from with which a pipe's promise is rejected.
-use Rattle.std.specs.Prelude.{ℕ, ◌*◌, ◌≡◌, Bool, true, false, not, ◌&&◌, ◌||◌, nat_eq, if◌then◌else◌, List, [], ◌∷◌, ◌++◌, length, Option, Some, Contains}
+use Rattle.std.specs.Prelude.{ℕ, ◌*◌, ◌≡◌, Bool, true, false, not, ◌&&◌, ◌||◌, nat_eq, if◌then◌else◌, List, [], ◌∷◌, ◌++◌, length, Option, Some, None, Contains}
 use Rattle.ws_value.specs.declared.ids.PromiseId.{PromiseId}
 use Rattle.ws_value.specs.declared.ids.SignalId.{SignalId}
 use Rattle.ws_value.specs.declared.ids.StreamId.{StreamId}
+use Rattle.ws_value.specs.declared.ids.TeeId.{TeeId}
 use Rattle.ws_value.specs.declared.value.Outcome.TheVariants.{Rejected}
 use Rattle.ws_value.specs.declared.value.Message.{Message}
 use Rattle.ws_value.specs.declared.value.Message.TheVariants.{Error as ErrorMessage}
 use Rattle.ws_value.specs.declared.value.Plain.{Plain}
-use Rattle.ws_value.specs.declared.value.Plain.TheVariants.{Undefined, Number, Fault as FaultReason, Pair, Local}
+use Rattle.ws_value.specs.declared.value.Plain.TheVariants.{Pair}
 use Rattle.ws_steps.specs.declared.calls.Answer.{Answer}
 use Rattle.ws_steps.specs.declared.calls.Answer.TheVariants.{Ok as AnswerOk, Fail as AnswerFail}
 use Rattle.ws_steps.specs.declared.calls.Call.{Call}
@@ -27,9 +28,10 @@ use Rattle.ws_steps.specs.Promises.{outcome_at}
 use Rattle.ws_steps.specs.Queues.{is_empty}
 use Rattle.ws_steps.specs.ReadableLooks as readable_looks
 use Rattle.ws_steps.specs.Run.{Entry, Called, Worked, Heard, step, reply_to, run}
-use Rattle.ws_steps.specs.Slots.{Slots, empty, has_byte, has_source, has_writable, byte_at, source_at, writable_at, lock_at}
+use Rattle.ws_steps.specs.Slots.{Slots, empty, has_byte, has_source, has_writable, byte_at, source_at, writable_at, lock_at, pair_at}
 use Rattle.ws_steps.specs.Writable.{is_closed, is_closing, is_erroring, is_errored}
 use Rattle.ws_steps.specs.WritableLooks as writable_looks
+use Rattle.ws_reason_laws.specs.Uncloned.{run_uncloned}
 
 -- the reason of an answer by which a host's algorithm fails
 abbrev pub answered_reason : Answer → List Plain
@@ -135,22 +137,15 @@ pub record BringsNothing (entries : List Entry) : Type 0 where
   pub transforms : (run entries empty).transforms ≡ []
   pub erred : erred entries empty ≡ []
 
--- a pair of reasons, with which the source of a tee is cancelled
-abbrev pub is_pair : Plain → Bool
-is_pair Undefined = false
-is_pair (Number n) = false
-is_pair (FaultReason f) = false
-is_pair (Pair t) = true
-is_pair (Local n) = false
-
--- the premise that a reason is no pair, or that the run has no tee. With a tee its source is cancelled with a pair that no call gave
+-- the premise that a reason is no pair, or that the tee of which it is one doesn't keep the reasons of both its branches. With both its source
+-- is cancelled with this pair, which no call gave
 abbrev pub NeedsTee : Plain → List Entry → Type 0
-NeedsTee r entries = is_pair r ≡ true → (run entries empty).tees ≡ []
+NeedsTee r entries = (t : TeeId) → r ≡ Pair t → pair_at t (run entries empty) ≡ None
 
--- the premise that a reason is no DataCloneError, or that the run has no port. With that the stream at an end of one fails what it
--- is asked for: a write of a chunk that can't be cloned, and a cancel or an abort whose reason can't be
+-- the premise that a reason is no DataCloneError, or that nothing which can't be cloned was given to a stream at the end of a port. With a
+-- DataCloneError that stream fails what it is asked for: a write of such a chunk, and a cancel or an abort with such a reason
 abbrev pub NeedsPort : Plain → List Entry → Type 0
-NeedsPort r entries = r ≡ data_clone → (run entries empty).ports ≡ []
+NeedsPort r entries = r ≡ data_clone → run_uncloned entries empty ≡ false
 
 abbrev pub EachReasonWasGiven : Type 0
 EachReasonWasGiven =

@@ -9,9 +9,12 @@ ghost use Rattle.ws_reason_laws.specs.Origins.{EachReasonHasAnOrigin, EachStored
 ///
 /// This is so whatever the host does before the pipe is made and after it. A failure is the reason of an abort, an
 /// error, a trigger, or the failure of a host's algorithm, or of an error that was delivered over a port. Else the
-/// reason is one that a call brought through a transform stream or, a TypeError, into a byte stream; where the realm
-/// has a port, it may be a DataCloneError; and where the pipe's destination was closing or closed as it was made, a
-/// TypeError.
+/// reason is one that a call brought through a transform stream or, a TypeError, into a byte stream; where a value or a
+/// reason that can't be cloned was given to a stream at the end of a port, it may be a DataCloneError; and where the
+/// pipe's destination was closing or closed as it was made, a TypeError.
+///
+/// What is given to a stream is a value that is written to it, and the reason with which it is cancelled or aborted: by
+/// a call, by a pipe, or by a tee, whose pair can't be cloned. Each of these is worked out in an example.
 ///
 /// A call brings the reason of a cancel of a readable half, by number or by a reader, through its transform stream;
 /// and a TypeError where it terminates one, where it makes a pipe from a readable half onto a destination that is
@@ -21,8 +24,10 @@ ghost use Rattle.ws_reason_laws.specs.Origins.{EachReasonHasAnOrigin, EachStored
 /// by its cancels and aborts came in by one of these calls before.
 ///
 /// So where no call of a run does so, a pipe whose destination was neither closing nor closed is rejected only with a
-/// failure, also where the realm has transform streams; or with a DataCloneError where it has ports. Of a pair of
-/// reasons, with which a tee cancels its source, all this is said only of runs without a tee.
+/// failure, also where the realm has transform streams; or with a DataCloneError where something that can't be cloned
+/// was given to a stream at the end of a port. All this is said of each reason but the pair of a tee both of whose
+/// branches were cancelled, with which the tee cancels its source. So a pair comes only from such a tee, or from one of
+/// these calls.
 ///
 /// Of: reasons, pipes, shutdown with an action.
 pub fn each_reason_has_an_origin()
@@ -33,8 +38,9 @@ pub fn each_reason_has_an_origin()
 ///
 /// So it is, whatever the host does, of a readable stream which is errored and of a writable stream which is erroring
 /// or errored. The failures and the calls that bring a reason through a transform stream or into a byte stream are
-/// those of `each_reason_has_an_origin`; where the realm has a port, it may be a DataCloneError. Of a pair of reasons
-/// this is said only of runs without a tee.
+/// those of `each_reason_has_an_origin`; where something that can't be cloned was given to a stream at the end of a
+/// port, it may be a DataCloneError. This is said of each reason but the pair of a tee both of whose branches were
+/// cancelled.
 ///
 /// Of: reasons, readable streams, writable streams, ReadableStreamError, WritableStreamStartErroring.
 pub fn each_stored_error_has_an_origin()
@@ -48,10 +54,10 @@ pub fn each_stored_error_has_an_origin()
 /// That is the reason of a cancel, an abort, an error, a trigger, an error that was delivered over a port, or the
 /// failure of a host's algorithm, whatever the host does before the pipe is made and after it. It may be a TypeError
 /// too where the realm has a transform stream, or where a call of the run brought one into a byte stream: a close, or
-/// a read into a room, that left a part of an element over (a worked example has it). Of a pair of reasons this is
-/// said only of runs without a tee: with one, the source is cancelled with a pair that no call gave. Of a
-/// DataCloneError it is said only of runs without a port: a write by a port, a cancel or an abort fails with it,
-/// where the chunk or the reason can't be sent.
+/// a read into a room, that left a part of an element over (a worked example has it). It may be the pair of a tee both
+/// of whose branches were cancelled: with that the source is cancelled, and no call gave it; any other pair is one that
+/// a call gave. It may be a DataCloneError where something that can't be cloned was given to a stream at the end of a
+/// port: with it that stream fails a write of such a chunk, and a cancel or an abort with such a reason.
 ///
 /// Of: reasons, pipes, shutdown with an action.
 pub fn each_reason_was_given()
@@ -65,8 +71,9 @@ pub fn each_reason_was_given()
 /// So it is never rejected with a reason that only cancels gave. The reason is the reason of an abort, an error, a
 /// trigger, an error that was delivered over a port, or the failure of a host's algorithm. Where the realm has a
 /// transform stream it may be a TypeError, or the reason of a cancel; and a TypeError where a call of the run brought
-/// one into a byte stream. Of a pair of reasons this is said only of runs without a tee, and of a DataCloneError only
-/// of runs without a port.
+/// one into a byte stream. It may be the pair of a tee both of whose branches were cancelled; any other pair is such a
+/// reason. And it may be a DataCloneError where something that can't be cloned was given to a stream at the end of a
+/// port.
 ///
 /// Of: reasons, pipes, shutdown with an action.
 pub fn each_reason_was_a_failure()
@@ -79,8 +86,9 @@ pub fn each_reason_was_a_failure()
 /// So it is, whatever the host does, of a readable stream which is errored and of a writable stream which is erroring
 /// or errored: the reason is that of an abort, an error, a trigger, an error that was delivered over a port, or the
 /// failure of a host's algorithm. Where the realm has a transform stream it may be a TypeError, or the reason of a
-/// cancel; and a TypeError where a call of the run brought one into a byte stream. Of a pair of reasons this is said
-/// only of runs without a tee, and of a DataCloneError only of runs without a port.
+/// cancel; and a TypeError where a call of the run brought one into a byte stream. It may be the pair of a tee both of
+/// whose branches were cancelled; any other pair is such a reason. And it may be a DataCloneError where something that
+/// can't be cloned was given to a stream at the end of a port.
 ///
 /// Of: reasons, readable streams, writable streams, ReadableStreamError, WritableStreamStartErroring.
 pub fn each_stored_error_was_a_failure()

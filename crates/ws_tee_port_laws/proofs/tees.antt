@@ -1,4 +1,3 @@
-pub mod Pairs
 pub mod Branches
 pub mod Cancels
 pub mod Handing

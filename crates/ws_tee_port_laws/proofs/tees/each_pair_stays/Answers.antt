@@ -1,4 +1,4 @@
-use Rattle.ws_tee_port_laws.proofs.tees.Pairs as laws
+use Rattle.ws_reason_laws.proofs.Pairs as laws
 use Rattle.ws_tee_port_laws.proofs.tees.each_pair_stays.Goals as goal
 
 pub returns : goal.returns

@@ -106,7 +106,7 @@ module _ (q : Plain × Plain) where
     tee-keeps me operation s (Some x) is h =
         put-keeps s.tees t.0 me.0 x _ is (operation-keeps me operation (record { slots = x; out = found s })) h
 
-    row-keeps : (e : Effect) (s : Slots) → It s → It (row e s).slots
+    pub row-keeps : (e : Effect) (s : Slots) → It s → It (row e s).slots
     unfolding row
     row-keeps (Tee me operation) s h = tee-keeps me operation s (slice_get s.tees me.0) refl h
     row-keeps e s h = rw (row-tees e s tt) h
@@ -136,7 +136,7 @@ module _ (q : Plain × Plain) where
       older = λ s h. h;
     }
 
-    run-keeps : (entries : List Entry) (s : Slots) → It s → It (run entries s)
+    pub run-keeps : (entries : List Entry) (s : Slots) → It s → It (run entries s)
     run-keeps entries s h = run-stays (λ s es. It s) stays (λ z k. k) entries s h
 
 pub each_pair_stays : EachPairStays
