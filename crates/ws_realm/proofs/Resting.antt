@@ -83,24 +83,28 @@ rests-still t u more rest = record {
 
 -- and prepared still, where places are left
 pub ready-still : (t : Tables) (u : Table) → Less t.promises.table u → IsPrepared t → IsPrepared (record t { promises = record t.promises { table = u } })
-ready-still t u less ready = record {
-  promises = less-room (places_for 0 8 3 15 t) t.promises u less ready.promises;
-  jobs = let a = less.jobs in let h = ready.jobs in omega (arith, a, h);
-  hosts = ready.hosts;
-  caused = ready.caused;
-  others = ready.others;
-  under_way = ready.under_way;
-  grown = ready.grown;
-  places = ready.places;
-  full = ready.full;
-  members = ready.members;
-  locks = ready.locks;
-  byob_requests = ready.byob_requests;
-  streams = ready.streams;
-  transforms = ready.transforms;
-  tees = ready.tees;
-  ports = ready.ports;
-  copies = ready.copies;
-  pipes = ready.pipes;
-  signals = ready.signals;
-}
+ready-still t u less prepared =
+    let ready = prepared.ready in
+    record {
+      ready = record {
+        promises = less-room (places_for 0 8 3 15 t) t.promises u less ready.promises;
+        jobs = let a = less.jobs in let h = ready.jobs in omega (arith, a, h);
+        hosts = ready.hosts;
+        caused = ready.caused;
+        others = ready.others;
+        under_way = ready.under_way;
+        grown = ready.grown;
+        places = ready.places;
+        full = ready.full;
+        members = ready.members;
+        copies = ready.copies;
+      };
+      locks = prepared.locks;
+      byob_requests = prepared.byob_requests;
+      streams = prepared.streams;
+      transforms = prepared.transforms;
+      tees = prepared.tees;
+      ports = prepared.ports;
+      pipes = prepared.pipes;
+      signals = prepared.signals;
+    }

@@ -16,7 +16,7 @@ ghost use Rattle.ws_realm.specs.declared.realm.Why.TheVariants as why;
 use std::alloc::Global;
 use std::marker::Model;
 use ws_calls::{perform_call, perform_enqueue, perform_job, settle_done};
-use ws_prepare::prepare;
+use ws_prepare::{prepare, prepare_work};
 use ws_steps::{Call, Event, Reply};
 use ws_tables::Tables;
 use ws_value::{
@@ -137,7 +137,12 @@ impl Realm {
         ensures untouched { OnErr result (self.new ≡ self.old) }
         ensures prepared { self.old.prepared ≡ true → IsOk result }
     {
-        self.prepare()?;
+        if self.tables.age == OLDEST {
+            return Err(Why::Spent);
+        }
+        if let Err(NoMemory) = prepare_work(&mut self.tables, self.prepared) {
+            return Err(Why::NoMemory);
+        }
         self.prepared = false;
         Ok(perform_enqueue(&mut self.tables, i, chunk))
     }
@@ -196,7 +201,9 @@ impl Realm {
         if self.queued() == 0 {
             return Ok(false);
         }
-        self.prepare()?;
+        if let Err(NoMemory) = prepare_work(&mut self.tables, self.prepared) {
+            return Err(Why::NoMemory);
+        }
         self.prepared = false;
         Ok(perform_job(&mut self.tables))
     }
