@@ -1,5 +1,5 @@
 //! A stage at work.
-ghost use Rattle.std.specs.Prelude.{◌≡◌, ◌+◌, ◌<◌, ◌^◌, true, false, IfOk, OnErr, OnOk, length};
+ghost use Rattle.std.specs.Prelude.{◌≡◌, ◌+◌, ◌<◌, ◌^◌, [], true, false, IfOk, OnErr, OnOk, length};
 ghost use Rattle.ws_flow.specs.declared.plan.Ending.TheVariants.{Fine};
 ghost use Rattle.ws_flow.specs.Stages.{HasLength, is_in_range, machine};
 ghost use Rattle.ws_stages.specs.Answers.{Answers, Flushed};
@@ -92,6 +92,15 @@ impl Work {
         let chunks = mem::replace(&mut self.cut.chunks, Vec::new(self.cut.alloc));
         self.stopped = matches!(ending, Ending::Bad { .. });
         Ok(Pushed { chunks, ending })
+    }
+
+    /// Takes back a list that it answered, once it is empty: what comes out next lies in it, so that no list is made
+    /// for each chunk.
+    pub fn take_back(&mut self, list: Vec<Chunk>)
+        requires { list.items ≡ [] }
+        ensures { self.new ≡ self.old }
+    {
+        self.cut.chunks = list;
     }
 
     /// The end of the stage's input, and what it adds.

@@ -1,9 +1,13 @@
-use Rattle.std.proofs.Common.{ap, ◌∙◌}
+use Rattle.std.proofs.Common.{◌≡◌, length, drop, ◌∙◌, arith}
+use Rattle.std.proofs.lemmas.List.{take_at}
 use Rattle.ws_flow.proofs.EachKind.{hex_texts}
 use Rattle.ws_stages.proofs.Pushes.{texts_push}
 use Rattle.ws_stages.proofs.text.in_hex.Goals as goal
 
 pub returns : goal.returns
 returns c =
-    let text = c.from_vec.ensures ∙ ap (λ v. v.items) c.into_bytes.ensures.value ∙ c.in_ok-text.ensures in
+    let v = c.in_ok-text.text in
+    let new = c.put_digits.new.text in
+    let len : length new ≡ v.len = omega arith in
+    let text = c.from_vec.ensures ∙ take_at new (drop (length new) v.items) v.len len ∙ c.put_digits.ensures in
     texts_push hex_texts c.args.cut.now c.args.bytes.now c.from_vec.result c.requires.room text
