@@ -1,5 +1,7 @@
 -- Chunks are enqueued in order.
-use Rattle.std.proofs.Common.{◌≡◌, ◌↔◌, ℕ, List, [], ◌∷◌, Bool, true, false, refl, sym, ap, ◌∙◌, subst, length, arith}
+use Rattle.std.proofs.Common.{◌≡◌, ◌↔◌, ℕ, List, [], ◌∷◌, ◌++◌, Option, Some, Bool, true, false, refl, sym, ap, ◌∙◌, subst, length, reverse, arith}
+use Rattle.std.specs.Option.{option_to_list}
+use Rattle.std.proofs.lemmas.List.{reverse-append}
 use Rattle.ws_steps.specs.declared.calls.Call.{Call}
 use Rattle.ws_value.specs.declared.ids.StreamId.{StreamId}
 use Rattle.ws_node.specs.declared.node.Node.{Node}
@@ -39,3 +41,7 @@ none-left n (x ∷ xs) e f = absurd (omega arith)
 
 pub to-last : (i : StreamId) (all left : List (List ℕ)) (a x : Node) (n : ℕ) → EnqueuesFrom i all a left x → n ≡ length left → n ≡ 0 → Enqueues i all a x
 to-last i all left a x n from e f = from x (subst (λ (q : List (List ℕ)). Enqueues i q x x) (sym (none-left n left e f)) (NoPiece x))
+
+-- the last of a list is the first of the list in reverse
+pub popped : (old new : List (List ℕ)) (r : Option (List ℕ)) (x : List ℕ) → old ≡ new ++ option_to_list r → r ≡ Some x → reverse old ≡ x ∷ reverse new
+popped old new r x e is = ap reverse (e ∙ ap (λ q. new ++ option_to_list q) is) ∙ reverse-append new (x ∷ [])

@@ -63,6 +63,7 @@ pub mod StillOpen
 pub mod Taking
 pub mod TakingAbove
 pub mod TakingBelow
+pub mod Teeless
 pub mod Telling
 pub mod Tidying
 pub mod Turning

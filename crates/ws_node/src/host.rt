@@ -283,21 +283,39 @@ impl Node {
     {
         match pushed {
             Ok(pushed) => {
-                self.enqueue_all(stream, pushed.chunks);
+                let mut chunks = pushed.chunks;
+                self.enqueue_all(stream, &mut chunks);
+                self.hand_back(stream, chunks);
                 self.settle_by(id, stream, pushed.ending)
             }
             Err(NoMemory) => self.core.stopped = Some(Why::NoMemory),
         }
     }
 
-    /// Enqueues chunks in order. Where one can't be taken, the rest is dropped.
-    fn enqueue_all(&mut self, stream: StreamId, chunks: Vec<Chunk>)
-        ensures { Enqueues stream chunks.items self.old self.new }
+    /// Enqueues chunks in order, and takes them out of their list. Where one can't be taken, the rest is dropped.
+    fn enqueue_all(&mut self, stream: StreamId, chunks: &mut Vec<Chunk>)
+        ensures enqueued { Enqueues stream chunks.old.items self.old self.new }
+        ensures none { chunks.new.items ≡ [] }
     {
-        for chunk in chunks {
+        chunks.reverse();
+        while let Some(chunk) = chunks.pop() {
             if !self.enqueue(stream, chunk) {
+                chunks.clear();
                 return;
             }
+        }
+    }
+
+    /// Hands an empty list back to the stage that answered it.
+    fn hand_back(&mut self, stream: StreamId, list: Vec<Chunk>)
+        requires { list.items ≡ [] }
+        ensures { self.new ≡ self.old }
+    {
+        let Some(place) = place_of(stream) else {
+            return;
+        };
+        if let Some(work) = self.core.stages.get_mut(place) {
+            work.take_back(list);
         }
     }
 
