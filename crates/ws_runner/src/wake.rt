@@ -101,7 +101,7 @@ impl Bells {
 }
 
 /// How often a thread looks again before it sleeps.
-const LOOKS: u32 = 100;
+const LOOKS: u32 = 200;
 
 /// How often it pauses between two looks. With these and the turns between them all looks take some tens of
 /// microseconds, by how long the processor pauses.
@@ -111,7 +111,7 @@ const PAUSES: u32 = 10;
 const FEW: u32 = 3;
 
 /// One wait of so many has looks even then: whether a neighbour has a processor of its own again shows in no other way.
-const SELDOM: u32 = 16;
+const SELDOM: u32 = 8;
 
 /// How a thread waits that finds nothing to do.
 #[derive(Drop)]
