@@ -7,6 +7,7 @@ use Rattle.ws_io.specs.Gain.{KeepsTold}
 use Rattle.ws_io.specs.Written.{WroteFirst}
 use Rattle.ws_io.proofs.Flow.{Gains-nothing, KeepsTold-same}
 use Rattle.ws_io.specs.Files.{LoadsTold}
+use Rattle.ws_io.specs.Memory.{one_more}
 use Rattle.ws_io.specs.declared.status.Status.{Status}
 use Rattle.ws_io.specs.declared.status.Status.TheVariants.{Done, WriteFault, NoMemory, LoadFault, Plan}
 use Rattle.ws_plan.specs.Reading.{Planned, reading}
@@ -66,10 +67,11 @@ Missing WriteFault name files files' old new p q e lacks = absurd (told_none fil
 Missing _ name files files' old new p q e lacks = absurd e.checks
 
 pub Performs-check : {K : Type 0} (status : Status) (name : List ℕ) (output output' : K) (files files' : Shelf) (old new : Told) (p q : List ℕ → Type 0)
-    → CheckEnds status name files files' old new p q → ((status ≡ Done → ⊥) → (status ≡ WriteFault → ⊥) → output' ≡ output)
+    → files'.loads ≡ one_more files.loads → CheckEnds status name files files' old new p q → ((status ≡ Done → ⊥) → (status ≡ WriteFault → ⊥) → output' ≡ output)
     → PerformsCheck status name output output' files files' old new p q
-Performs-check status name output output' files files' old new p q ends unwritten =
+Performs-check status name output output' files files' old new p q once ends unwritten =
     record {
+      once = once;
       ends = ends;
       unwritten = unwritten;
       complete = Complete status name files files' old new p q ends;

@@ -4,6 +4,7 @@ use Rattle.std.specs.List.{concat}
 use Rattle.std.specs.Prelude.{Option, Some, None, Ok, Err}
 use Rattle.ws_io.specs.Faults.{Calm}
 use Rattle.ws_io.specs.Feed.{Feed, Fed, HasLeft, IsEmpty}
+use Rattle.ws_io.specs.Memory.{one_more}
 use Rattle.ws_io.specs.Moment.{Moment}
 use Rattle.ws_io.specs.declared.status.Status.{Status}
 use Rattle.ws_io.specs.declared.status.Status.TheVariants.{Done, Stage, ReadFault, WriteFault, Aborted, NoMemory, TooMuch}
@@ -159,12 +160,13 @@ Unaborted-by _ plan old new p q bytes e ok has u three = elim three [ inl is ↦
 
 -- a run of the plan of the file, and a file without a plan
 pub Performs-ran : {S K : Type 0} (status : Status) (edges : List EdgeTrace) (trace : Bool) (name : List ℕ) (input input' : S) (output output' : K)
-    (files files' : Shelf) (old new : Moment) (p q : List ℕ → Type 0) (plan : Plan) → Loads (Ok plan) name files files'
-    → (e : Ends status plan old new p q) → HasEdges edges plan trace status e.taken e.gain
+    (files files' : Shelf) (old new : Moment) (p q : List ℕ → Type 0) (plan : Plan) → files'.loads ≡ one_more files.loads
+    → Loads (Ok plan) name files files' → (e : Ends status plan old new p q) → HasEdges edges plan trace status e.taken e.gain
     → PerformsRun status edges trace name input input' output output' files files' old new p q
-Performs-ran status edges trace name input input' output output' files files' old new p q plan loads e has_edges =
+Performs-ran status edges trace name input input' output output' files files' old new p q plan once loads e has_edges =
     let ok = accepted_file plan name files files' loads in
     record {
+      once = once;
       ends = Ran plan loads e has_edges;
       complete = λ text other bytes has is left fine load read write.
           let same = same_plan plan name text files files' (planned_as other) loads has is in
@@ -178,10 +180,11 @@ Performs-ran status edges trace name input input' output output' files files' ol
     }
 
 pub Performs-unread : {S K : Type 0} (status : Status) (edges : List EdgeTrace) (trace : Bool) (name : List ℕ) (input : S) (output : K)
-    (files files' : Shelf) (now : Moment) (p : List ℕ → Type 0) → Loads (Err status) name files files' → edges ≡ []
+    (files files' : Shelf) (now : Moment) (p : List ℕ → Type 0) → files'.loads ≡ one_more files.loads → Loads (Err status) name files files' → edges ≡ []
     → PerformsRun status edges trace name input input output output files files' now now p p
-Performs-unread status edges trace name input output files files' now p loads none =
+Performs-unread status edges trace name input output files files' now p once loads none =
     record {
+      once = once;
       ends = HadNone loads none refl refl;
       complete = λ text other bytes has is left fine load read write.
           inr (inr (Accepted-none status name text files files' (planned_as other) loads has is load));

@@ -2,6 +2,7 @@
 use Rattle.std.specs.Prelude.{◌≡◌, ◌⊎◌, ℕ, List, Option, Some, None, Ok, Err}
 use Rattle.ws_io.specs.Faults.{Calm, Rose}
 use Rattle.ws_io.specs.Files.{LoadsTold}
+use Rattle.ws_io.specs.Memory.{one_more}
 use Rattle.ws_io.specs.Moment.{Moment}
 use Rattle.ws_io.specs.declared.files.LoadRefused.TheVariants.{TooLong}
 use Rattle.ws_io.specs.declared.status.Status.{Status}
@@ -15,13 +16,14 @@ use Rattle.ws_plan.specs.PlanText.{check_text}
 use Rattle.ws_plan.specs.Reading.{Planned, reading}
 use Rattle.ws_script.specs.Printing.{Told, Performs}
 
--- what files tell at one moment: their texts, and how often a load has failed
+-- what files tell at one moment: their texts, how often a load has failed, and how many loads were asked for
 pub record Shelf : Type 0 where
   pub texts : Option (List ℕ → Option (List ℕ))
   pub faults : ℕ
+  pub loads : ℕ
 
-abbrev pub shelf : Option (List ℕ → Option (List ℕ)) → ℕ → Shelf
-shelf texts faults = record { texts = texts; faults = faults }
+abbrev pub shelf : Option (List ℕ → Option (List ℕ)) → ℕ → ℕ → Shelf
+shelf texts faults loads = record { texts = texts; faults = faults; loads = loads }
 
 -- the files tell that this is the text of the name, or that it has none
 abbrev pub OfName : Option (List ℕ → Option (List ℕ)) → List ℕ → Option (List ℕ) → Type 0
@@ -90,6 +92,8 @@ CheckEnds status name files files' old new got got' = ChecksFile status name fil
 -- what a check of the file of this name does, with the status that it ended with
 pub record PerformsCheck {K : Type 0} (status : Status) (name : List ℕ) (output output' : K) (files files' : Shelf) (old new : Told)
     (got got' : List ℕ → Type 0) : Type 0 where
+  -- the file is loaded once
+  pub once : files'.loads ≡ one_more files.loads
   -- what it may end with
   pub ends : CheckEnds status name files files' old new got got'
   -- nothing is written but the text of an accepted plan

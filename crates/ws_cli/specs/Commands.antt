@@ -1,12 +1,12 @@
 -- What the program does: by the words after its name it performs a command, and ends with the number of its status.
-use Rattle.std.specs.Prelude.{◌≡◌, ◌<◌, ◌≤◌, ◌^◌, ◌⊎◌, ℕ, true, false, List, [], ◌++◌, drop, length, Option, Some, None, All, IsUtf8, Ok, Err}
+use Rattle.std.specs.Prelude.{◌≡◌, ◌<◌, ◌≤◌, ◌^◌, ◌⊎◌, ℕ, Bool, true, false, List, [], ◌++◌, drop, length, Option, Some, None, All, IsUtf8, Ok, Err}
 use Rattle.ws_io.specs.Arguments.{IsRefused}
 use Rattle.ws_io.specs.Faults.{Calm}
 use Rattle.ws_io.specs.Feed.{HasAtMost, HasLeft}
 use Rattle.ws_io.specs.Gain.{Gains}
 use Rattle.ws_io.specs.Moment.{Moment}
 use Rattle.ws_io.specs.Notes.{number_of, text_of}
-use Rattle.ws_io.specs.declared.arguments.ArgumentsRefused.TheVariants.{NotText}
+use Rattle.ws_io.specs.declared.arguments.ArgumentsRefused.TheVariants.{NotText, NoMemory as NoMemoryFor}
 use Rattle.ws_io.specs.declared.status.Status.{Status}
 use Rattle.ws_io.specs.declared.status.Status.TheVariants.{Done, Usage, NoMemory, Script}
 use Rattle.ws_grammar.specs.declared.line.Line.{Line}
@@ -81,15 +81,15 @@ pub record PerformsWords {F S K : Type 0} (told : Option (List (List ℕ))) (sta
   pub performs : Performs words status edges files files' input input' output output' shelf shelf' old new got got'
 
 -- the status of arguments that can't be had
-abbrev pub TellsRefusal : Option (List (List ℕ)) → Status → Type 0
-TellsRefusal told Usage = IsRefused told NotText
-TellsRefusal told NoMemory = Unit {0}
-TellsRefusal told _ = ⊥
+abbrev pub TellsRefusal : Option (List (List ℕ)) → Bool → Status → Type 0
+TellsRefusal told lacking Usage = IsRefused told lacking NotText
+TellsRefusal told lacking NoMemory = IsRefused told lacking NoMemoryFor
+TellsRefusal told lacking _ = ⊥
 
 -- the arguments couldn't be had, and nothing was loaded, read or written
-pub record LacksWords {F S K : Type 0} (told : Option (List (List ℕ))) (status : Status) (edges : List EdgeTrace) (files files' : F) (input input' : S)
+pub record LacksWords {F S K : Type 0} (told : Option (List (List ℕ))) (lacking : Bool) (status : Status) (edges : List EdgeTrace) (files files' : F) (input input' : S)
     (output output' : K) : Type 0 where
-  pub refused : TellsRefusal told status
+  pub refused : TellsRefusal told lacking status
   pub edgeless : edges ≡ []
   pub unloaded : files' ≡ files
   pub unread : input' ≡ input
@@ -97,12 +97,12 @@ pub record LacksWords {F S K : Type 0} (told : Option (List (List ℕ))) (status
 
 -- What the program did that ended with this number: it is that of a status. Where the notes didn't fail they gained the lines of the edges of a traced run,
 -- and then the text of the status, and nothing else.
-pub record EndsWith {F S K : Type 0} (told : Option (List (List ℕ))) (number : ℕ) (files files' : F) (input input' : S) (output output' : K)
+pub record EndsWith {F S K : Type 0} (told : Option (List (List ℕ))) (lacking : Bool) (number : ℕ) (files files' : F) (input input' : S) (output output' : K)
     (shelf shelf' : Shelf) (old new : Moment) (got got' : List ℕ → Type 0) (failed failed' : ℕ) (notes notes' : List ℕ → Type 0) : Type 0 where
   pub status : Status
   pub edges : List EdgeTrace
   pub numbered : number ≡ number_of status
   pub did :
       PerformsWords told status edges files files' input input' output output' shelf shelf' old new got got'
-      ⊎ LacksWords told status edges files files' input input' output output'
+      ⊎ LacksWords told lacking status edges files files' input input' output output'
   pub noted : Calm failed failed' → Gains notes notes' (trace_text edges ++ text_of status)

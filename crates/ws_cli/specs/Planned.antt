@@ -3,6 +3,7 @@ use Rattle.std.specs.Prelude.{◌≡◌, ◌⊎◌, ◌<◌, ◌≤◌, ℕ, ℤ
 use Rattle.ws_io.specs.Faults.{Calm, Rose}
 use Rattle.ws_io.specs.Feed.{HasLeft}
 use Rattle.ws_io.specs.Files.{LoadsTold}
+use Rattle.ws_io.specs.Memory.{one_more}
 use Rattle.ws_io.specs.Moment.{Moment}
 use Rattle.ws_io.specs.declared.status.Status.{Status}
 use Rattle.ws_io.specs.declared.status.Status.TheVariants.{Done, Plan as PlanIs, Aborted, NoMemory, LoadFault}
@@ -61,6 +62,8 @@ IsUnaborted (Some after) n = n < nat_abs after
 -- what a run of the file of this name does, with the status that it ended with and the edges that it tells
 pub record PerformsRun {S K : Type 0} (status : Status) (edges : List EdgeTrace) (trace : Bool) (name : List ℕ) (input input' : S) (output output' : K)
     (files files' : Shelf) (old new : Moment) (got got' : List ℕ → Type 0) : Type 0 where
+  -- the file is loaded once
+  pub once : files'.loads ≡ one_more files.loads
   -- what it may end with
   pub ends : RunEnds status edges trace name input input' output output' files files' old new got got'
   -- where nothing fails, a plan runs to the end of an input that it takes whole, or is aborted where it says so, or memory can't be had

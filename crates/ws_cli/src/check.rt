@@ -41,7 +41,8 @@ pub fn run_check<F: Files, K: Sink>(
     output: &mut K,
 ) -> Status
     ensures does { PerformsCheck result name.now output.old output.new
-        (shelf (F.texts files.old) (F.faults files.old)) (shelf (F.texts files.new) (F.faults files.new))
+        (shelf (F.texts files.old) (F.faults files.old) (F.loads files.old))
+        (shelf (F.texts files.new) (F.faults files.new) (F.loads files.new))
         (record { faults = K.faults output.old; finished = K.finished output.old })
         (record { faults = K.faults output.new; finished = K.finished output.new })
         (K.got output.old) (K.got output.new) }

@@ -99,7 +99,8 @@ fn perform<R: Threads + Wait + Sync, F: Files, S: Source, K: Sink, G: Gate>(
 ) -> Finished
     ensures performs { Performs words.now result.status result.edges.items
         files.old files.new input.old input.new output.old output.new
-        (shelf (F.texts files.old) (F.faults files.old)) (shelf (F.texts files.new) (F.faults files.new))
+        (shelf (F.texts files.old) (F.faults files.old) (F.loads files.old))
+        (shelf (F.texts files.new) (F.faults files.new) (F.loads files.new))
         (moment (S.faults input.old) (S.feed input.old) (K.faults output.old) (K.finished output.old))
         (moment (S.faults input.new) (S.feed input.new) (K.faults output.new) (K.finished output.new))
         (K.got output.old) (K.got output.new) }
@@ -139,7 +140,8 @@ pub fn top<R: Threads + Wait + Sync, F: Files, S: Source, K: Sink, E: Sink, G: G
     // traced run, then the text of the status, and nothing else. They are never finished.
     ensures performs { PerformsNoted words.now result
         files.old files.new input.old input.new output.old output.new
-        (shelf (F.texts files.old) (F.faults files.old)) (shelf (F.texts files.new) (F.faults files.new))
+        (shelf (F.texts files.old) (F.faults files.old) (F.loads files.old))
+        (shelf (F.texts files.new) (F.faults files.new) (F.loads files.new))
         (moment (S.faults input.old) (S.feed input.old) (K.faults output.old) (K.finished output.old))
         (moment (S.faults input.new) (S.feed input.new) (K.faults output.new) (K.finished output.new))
         (K.got output.old) (K.got output.new)

@@ -1,5 +1,6 @@
 //! A pipeline file as it is loaded: its plan, or the status of a command that has none.
 ghost use Rattle.std.specs.Prelude.{◌≡◌, IfOk};
+ghost use Rattle.ws_io.specs.Memory.{one_more};
 ghost use Rattle.ws_node.specs.Opening.{IsAccepted};
 ghost use Rattle.ws_cli.specs.Check.{shelf};
 ghost use Rattle.ws_cli.specs.Planned.{Loads, ReadsText};
@@ -26,8 +27,10 @@ fn plan_of(alloc: Global, text: &Blob) -> Result<Plan, Status>
 pub fn load_plan<F: Files>(alloc: Global, files: &mut F, name: &Text) -> Result<Plan, Status>
     ensures accepted { IfOk result IsAccepted }
     ensures loads { Loads result name.now
-        (shelf (F.texts files.old) (F.faults files.old)) (shelf (F.texts files.new) (F.faults files.new)) }
+        (shelf (F.texts files.old) (F.faults files.old) (F.loads files.old))
+        (shelf (F.texts files.new) (F.faults files.new) (F.loads files.new)) }
     ensures texts { F.texts files.new ≡ F.texts files.old }
+    ensures once { F.loads files.new ≡ one_more (F.loads files.old) }
 {
     match files.load(alloc, name) {
         Ok(text) => plan_of(alloc, &text),

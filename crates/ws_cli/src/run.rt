@@ -64,7 +64,8 @@ pub fn run_file<R: Threads + Wait + Sync, F: Files, S: Source, K: Sink, G: Gate>
 ) -> Finished
     ensures performs { PerformsRun result.status result.edges.items trace name.now
         input.old input.new output.old output.new
-        (shelf (F.texts files.old) (F.faults files.old)) (shelf (F.texts files.new) (F.faults files.new))
+        (shelf (F.texts files.old) (F.faults files.old) (F.loads files.old))
+        (shelf (F.texts files.new) (F.faults files.new) (F.loads files.new))
         (moment (S.faults input.old) (S.feed input.old) (K.faults output.old) (K.finished output.old))
         (moment (S.faults input.new) (S.feed input.new) (K.faults output.new) (K.finished output.new))
         (K.got output.old) (K.got output.new) }

@@ -1,4 +1,4 @@
-ghost use Rattle.std.specs.Prelude.{List, ℕ, Option, MatchResult};
+ghost use Rattle.std.specs.Prelude.{Bool, List, ℕ, Option, MatchResult};
 ghost use Rattle.ws_io.specs.Arguments.{IsTold, IsRefused};
 
 use std::alloc::Global;
@@ -18,7 +18,10 @@ pub trait Arguments {
     /// The arguments, the program's name first, or nothing where they aren't told.
     ghost told: { Self → Option (List (List ℕ)) };
 
+    /// Whether memory can be wanting to them.
+    ghost lacking: { Self → Bool };
+
     /// All of them, the program's name first.
     fn all(&self, alloc: Global) -> Result<Vec<Text>, ArgumentsRefused>
-        ensures { MatchResult result (λ all. IsTold (told self.now) all.items) (IsRefused (told self.now)) };
+        ensures { MatchResult result (λ all. IsTold (told self.now) all.items) (IsRefused (told self.now) (lacking self.now)) };
 }

@@ -1,5 +1,6 @@
 ghost use Rattle.std.specs.Prelude.{◌≡◌, List, ℕ, Option};
 ghost use Rattle.ws_io.specs.Files.{LoadsTold, LoadCause};
+ghost use Rattle.ws_io.specs.Memory.{one_more};
 
 use std::alloc::Global;
 use ws_value::{Blob, Text};
@@ -21,6 +22,9 @@ pub trait Files {
     /// How often a load has failed, which never falls. It may stop at 2^64 - 1.
     ghost faults: { Self → ℕ };
 
+    /// How many loads were asked for. It may stop at 2^64 - 1.
+    ghost loads: { Self → ℕ };
+
     /// The text of each name that there is, or nothing where the files don't tell.
     ghost texts: { Self → Option (List ℕ → Option (List ℕ)) };
 
@@ -28,5 +32,6 @@ pub trait Files {
     fn load(&mut self, alloc: Global, name: &Text) -> Result<Blob, LoadRefused>
         ensures text { LoadsTold (texts self.old) name.now result }
         ensures texts { texts self.new ≡ texts self.old }
+        ensures loads { loads self.new ≡ one_more (loads self.old) }
         ensures cause { LoadCause (faults self.old) (faults self.new) result };
 }

@@ -1,6 +1,7 @@
 ghost use Rattle.std.specs.Prelude.{◌≡◌, ◌++◌, ◌∷◌, [], ◌↔◌, None, Some, Err, IsTrue, IfOk, OnOk, OnErr, MatchOption};
 ghost use Rattle.ws_io.specs.Files.{Loads, LoadCause, text_at, load_fails, after_load};
 ghost use Rattle.ws_io.specs.MemFiles.{pairs};
+ghost use Rattle.ws_io.specs.Memory.{one_more};
 
 use crate::numbers::contains;
 use crate::{Files, LoadRefused};
@@ -76,12 +77,15 @@ impl MemFiles {
 impl Files for MemFiles {
     ghost faults = { λ s. s.count };
 
+    ghost loads = { λ s. s.calls };
+
     ghost texts = { λ s. Some (text_at s.entries) };
 
     fn load(&mut self, alloc: Global, name: &Text) -> Result<Blob, LoadRefused>
         ensures after { self.new ≡ after_load self.old name.now }
         ensures fails { IsTrue (load_fails self.old name.now) ↔ (result ≡ Err LoadRefused.Failed) }
         ensures text { Loads (text_at self.old.entries name.now) result }
+        ensures loads { self.new.calls ≡ one_more self.old.calls }
         ensures cause { LoadCause self.old.count self.new.count result }
     {
         self.calls = self.calls.saturating_add(1);

@@ -1,4 +1,4 @@
-ghost use Rattle.std.specs.Prelude.{◌≡◌, None, OnOk, OnErr, ◌++◌, ◌∷◌, []};
+ghost use Rattle.std.specs.Prelude.{◌≡◌, true, None, OnOk, OnErr, ◌++◌, ◌∷◌, []};
 
 use crate::{Arguments, ArgumentsRefused};
 use std::alloc::Global;
@@ -29,6 +29,8 @@ fn add(alloc: Global, texts: &mut Vec<Text>, bytes: &[u8]) -> Result<(), NoMemor
 
 impl<'a, R: Env + AllocGlobal> Arguments for StdArguments<'a, R> {
     ghost told = { λ s. None };
+
+    ghost lacking = { λ s. true };
 
     fn all(&self, alloc: Global) -> Result<Vec<Text>, ArgumentsRefused> {
         let arguments = match env::args(self.rt) {

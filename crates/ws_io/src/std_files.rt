@@ -16,15 +16,20 @@ const LIMIT: usize = 1_048_576;
 #[derive(Drop)]
 pub struct StdFiles<'a, R> {
     rt: &'a R,
+    calls: u64,
     count: u64,
 }
 
 impl<'a, R: rt::Files> StdFiles<'a, R> {
-    /// The files of this runtime, of which no load has failed.
+    /// The files of this runtime, of which none was loaded.
     pub fn over(rt: &'a R) -> StdFiles<'a, R>
-        ensures { result.count ≡ 0 }
+        ensures { (result.calls ≡ 0) × (result.count ≡ 0) }
     {
-        StdFiles { rt, count: 0 }
+        StdFiles {
+            rt,
+            calls: 0,
+            count: 0,
+        }
     }
 }
 
@@ -88,13 +93,17 @@ fn read_named<R: rt::Files>(rt: &R, alloc: Global, name: &Text) -> Result<Vec<u8
 impl<'a, R: rt::Files> Files for StdFiles<'a, R> {
     ghost faults = { λ s. s.count };
 
+    ghost loads = { λ s. s.calls };
+
     ghost texts = { λ s. None };
 
     fn load(&mut self, alloc: Global, name: &Text) -> Result<Blob, LoadRefused>
         ensures limit { IfOk result (λ blob. length blob ≤ load_limit) }
+        ensures loads { self.new.calls ≡ one_more self.old.calls }
         ensures cause { LoadCause self.old.count self.new.count result }
         ensures count { result ≡ Err LoadRefused.Failed → self.new.count ≡ one_more self.old.count }
     {
+        self.calls = self.calls.saturating_add(1);
         match read_named(self.rt, alloc, name) {
             Ok(bytes) => Ok(Blob::from_vec(bytes)),
             Err(LoadRefused::Failed) => {

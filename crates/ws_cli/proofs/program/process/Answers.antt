@@ -1,4 +1,6 @@
-use Rattle.std.proofs.Common.{[], inl, inr, refl, ap, drop, ◌∙◌, rules}
+use Rattle.std.proofs.Common.{[], inl, inr, refl, ap, subst, drop, ◌∙◌, rules}
+use Rattle.ws_io.specs.Arguments.{IsRefused}
+use Rattle.ws_io.specs.declared.arguments.ArgumentsRefused.{ArgumentsRefused}
 use Rattle.ws_io.specs.declared.status.Status.TheVariants.{Usage, NoMemory}
 use Rattle.ws_cli.proofs.Performing.{are_words}
 use Rattle.ws_cli.proofs.program.process.Goals as goal
@@ -16,11 +18,13 @@ returns-in-Err-NotText-clause-ends g c =
 
 pub returns-in-Err-NoMemory-clause-ends : goal.returns-in-Err-NoMemory-clause-ends
 returns-in-Err-NoMemory-clause-ends g c =
+    let told = g.A.Arguments.told c.args.arguments.now in
+    let lacking = g.A.Arguments.lacking c.args.arguments.now in
     record {
       status = NoMemory;
       edges = [];
       numbered = c.end-in-Err-NoMemory.ensures.number;
-      did = inr (record { refused = tt; edgeless = refl; unloaded = refl; unread = refl; unwritten = refl });
+      did = inr (record { refused = subst (λ (e : ArgumentsRefused). IsRefused told lacking e) c.in-Err-NoMemory.field-0-is c.in-Err-NoMemory.ensures; edgeless = refl; unloaded = refl; unread = refl; unwritten = refl });
       noted = c.end-in-Err-NoMemory.ensures.notes;
     }
 
