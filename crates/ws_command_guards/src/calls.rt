@@ -1,7 +1,7 @@
 //! Calls and jobs of a realm, over its tables.
 ghost use Rattle.std.specs.Prelude.{◌≡◌, ◌<◌, ◌≤◌, ◌+◌, ◌^◌, not, if◌then◌else◌};
 ghost use Rattle.ws_steps.specs.Run as run;
-ghost use Rattle.ws_tables.specs.Room.{IsPrepared, IsResting};
+ghost use Rattle.ws_tables.specs.Room.{IsPrepared, IsReady, IsResting};
 ghost use Rattle.ws_tables.specs.View.{slots_of};
 
 use ws_steps::{Call, Reply};
@@ -22,7 +22,7 @@ pub fn perform_call(tables: &mut Tables, call: Call) -> Reply
 
 /// Performs the first job.
 pub fn perform_job(tables: &mut Tables) -> bool
-    requires prepared { IsPrepared tables.old }
+    requires ready { IsReady tables.old }
     requires resting { IsResting tables.old }
     requires young { tables.old.age < 2 ^ 62 }
     ensures worked { result ≡ not (run.is_idle (slots_of tables.old)) }

@@ -22,7 +22,8 @@ pub fn run_check<F: Files, K: Sink>(
     output: &mut K,
 ) -> Status
     ensures does { PerformsCheck result name.now output.old output.new
-        (shelf (F.texts files.old) (F.faults files.old)) (shelf (F.texts files.new) (F.faults files.new))
+        (shelf (F.texts files.old) (F.faults files.old) (F.loads files.old))
+        (shelf (F.texts files.new) (F.faults files.new) (F.loads files.new))
         (record { faults = K.faults output.old; finished = K.finished output.old })
         (record { faults = K.faults output.new; finished = K.finished output.new })
         (K.got output.old) (K.got output.new) }
@@ -44,7 +45,8 @@ pub fn top<R: Threads + Wait + Sync, F: Files, S: Source, K: Sink, E: Sink, G: G
 ) -> Status
     ensures performs { PerformsNoted words.now result
         files.old files.new input.old input.new output.old output.new
-        (shelf (F.texts files.old) (F.faults files.old)) (shelf (F.texts files.new) (F.faults files.new))
+        (shelf (F.texts files.old) (F.faults files.old) (F.loads files.old))
+        (shelf (F.texts files.new) (F.faults files.new) (F.loads files.new))
         (moment (S.faults input.old) (S.feed input.old) (K.faults output.old) (K.finished output.old))
         (moment (S.faults input.new) (S.feed input.new) (K.faults output.new) (K.finished output.new))
         (K.got output.old) (K.got output.new)
@@ -75,9 +77,10 @@ pub fn process<
     notes: &mut E,
     gate: &G,
 ) -> ExitCode
-    ensures ends { EndsWith (A.told arguments.now) (exit_status result)
+    ensures ends { EndsWith (A.told arguments.now) (A.lacking arguments.now) (exit_status result)
         files.old files.new input.old input.new output.old output.new
-        (shelf (F.texts files.old) (F.faults files.old)) (shelf (F.texts files.new) (F.faults files.new))
+        (shelf (F.texts files.old) (F.faults files.old) (F.loads files.old))
+        (shelf (F.texts files.new) (F.faults files.new) (F.loads files.new))
         (moment (S.faults input.old) (S.feed input.old) (K.faults output.old) (K.finished output.old))
         (moment (S.faults input.new) (S.feed input.new) (K.faults output.new) (K.finished output.new))
         (K.got output.old) (K.got output.new)

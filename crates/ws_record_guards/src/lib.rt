@@ -5,6 +5,7 @@
 
 pub mod byte_streams;
 pub mod edges;
+pub mod lanes;
 pub mod pipes;
 pub mod plans;
 pub mod ports;

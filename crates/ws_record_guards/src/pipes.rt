@@ -1,11 +1,11 @@
 //! Pipes.
 ghost use Rattle.std.specs.Prelude.{◌≡◌, ◌≤◌, false, length, true};
-ghost use Rattle.ws_pipe.specs.Seen.{HasRoomFor, acts_of, looks};
-ghost use Rattle.ws_promise.specs.Seen.{HasEffectRoom};
+ghost use Rattle.ws_pipe.specs.Seen.{HasRoomFor, acts_of, going, is_next, look_of, looks};
+ghost use Rattle.ws_promise.specs.Seen.{HasEffectRoom, HasPromiseRoom};
 ghost use Rattle.ws_steps.specs.Operations.{pipe_operation};
 ghost use Rattle.ws_steps.specs.declared.pipes.Ends.{Ends};
 
-use ws_pipe::{Pipe, PipeEnds};
+use ws_pipe::{Pipe, PipeEnds, PipeLook, PipeNext};
 use ws_promise::{Agenda, Promises};
 use ws_steps::PipeOperation;
 use ws_value::PipeId;
@@ -51,4 +51,25 @@ pub fn perform_without_ends(
     ensures effect_room { fx.new.capacity ≡ fx.old.capacity }
 {
     pipe.perform_without_ends(me, p, fx, operation);
+}
+
+/// Performs an operation in which the pipe looks at its two ends: what it does next. What else there is to do is
+/// caused.
+pub fn look_directly(
+    pipe: &mut Pipe,
+    me: PipeId,
+    ends: &PipeEnds,
+    p: &mut Promises,
+    fx: &mut Agenda,
+    look: PipeLook,
+) -> PipeNext
+    requires promise_room { HasPromiseRoom 3 p.old }
+    requires effect_room { HasEffectRoom 5 fx.old }
+    ensures row { pipe_operation me ends.now (look_of look) (acts_of pipe.old p.old fx.old)
+        ≡ going me result (acts_of pipe.new p.new fx.new) }
+    ensures quiet { is_next result ≡ true → fx.new ≡ fx.old }
+    ensures promise_room { p.new.room ≡ p.old.room }
+    ensures effect_room { fx.new.capacity ≡ fx.old.capacity }
+{
+    pipe.look_directly(me, ends, p, fx, look)
 }

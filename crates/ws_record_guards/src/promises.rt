@@ -27,6 +27,14 @@ pub fn react(promises: &mut Promises, p: PromiseId, step: Step, derived: Option<
     promises.react(p, step, derived);
 }
 
+/// Resolves `p` with the promise `q`, where it is pending and follows no other; else that went astray.
+pub fn follow(promises: &mut Promises, p: PromiseId, q: PromiseId)
+    requires { HasJobRoom 1 promises.old }
+    ensures { promises.new ≡ record promises.old { table = table.follow p q promises.old.table } }
+{
+    promises.follow(p, q);
+}
+
 /// Fulfils `p` with a value or rejects it with a reason, where it is pending and follows no other; else that went
 /// astray.
 pub fn settle(promises: &mut Promises, p: PromiseId, outcome: Result<Plain, Plain>)
