@@ -1,5 +1,5 @@
-//! What no clause, example or case of cases/ says: calls of the program over objects in memory and adapters that
-//! fail or move little at a time, and rows of messages between threads.
+//! What no clause, example or case of cases/ says of the program: its calls over objects in memory and adapters that
+//! fail or move little at a time, and its workers beside each other.
 #![tactic(auto)]
 
 #[cfg(test)]
@@ -7,17 +7,9 @@ mod adapters;
 #[cfg(test)]
 mod calls;
 #[cfg(test)]
-mod held;
-#[cfg(test)]
-mod kept;
-#[cfg(test)]
 mod memory;
 #[cfg(test)]
-mod orders;
-#[cfg(test)]
 mod paces;
-#[cfg(test)]
-mod ports;
 #[cfg(test)]
 mod shared;
 #[cfg(test)]
