@@ -1,0 +1,30 @@
+#!/bin/sh
+# How fast the kernels of `ws_lanes` go over 1 GiB, beside plain loops and beside a pass that only reads: by a block of 16 KiB, which
+# lies in the processor's cache, and by one of 64 MiB. Prints for each the median and the best of the runs in MiB a second.
+# The program, `bench/lanes.rt.txt`, is no crate of the gate, which takes no other .rt file: it is proved and built here, in a folder of
+# its own. Word: how many runs.
+set -eu
+root=$(CDPATH='' cd -- "$(dirname -- "$0")/.." && pwd)
+work=$(mktemp -d)
+trap 'rm -rf "$work"' EXIT
+runs=${1:-5}
+. "$root/bench/measure.sh"
+
+mkdir -p "$work/crates/bench_lanes/src" "$work/crates/ws_lanes"
+cp "$root/HANDLES" "$work"
+cp "$root/bench/lanes.rt.txt" "$work/crates/bench_lanes/src/main.rt"
+for part in src specs proofs; do cp -R "$root/crates/ws_lanes/$part" "$work/crates/ws_lanes"; done
+printf 'ws_lanes:\nbench_lanes: ws_lanes\n' >"$work/crates.txt"
+(cd "$work/crates/bench_lanes" && rt run) >"$work/built" 2>&1 || { cat "$work/built" >&2; exit 1; }
+program=$work/crates/bench_lanes/out/bench_lanes
+
+while [ "$runs" -gt 0 ]; do
+    "$program" measured | while read -r bytes kernel nanoseconds; do echo "$((nanoseconds / 1000))" >>"$work/$kernel.$bytes"; done
+    runs=$((runs - 1))
+done
+for bytes in 16384 67108864; do
+    for kernel in read count_byte count_plainly mask mask_plainly; do
+        measured=$work/$kernel.$bytes
+        printf '%-9s %-14s %7s MiB/s  (best %7s)\n' "$bytes" "$kernel" "$((1024 * 1000000 / $(median "$measured")))" "$((1024 * 1000000 / $(least "$measured")))"
+    done
+done
