@@ -150,7 +150,7 @@ are-teeless (Called c ∷ xs) a = (nodes-teeless c a.0, are-teeless xs a.1)
 are-teeless (Worked ∷ xs) a = are-teeless xs a
 are-teeless (Heard ∷ xs) a = are-teeless xs a
 
-past-teeless : (origin : Origin) (target : Target) (n : ℕ) (signalled : Bool) (xs : List Entry) → AreNodes xs → (run (past_of origin target n signalled xs) empty).tees ≡ []
+pub past-teeless : (origin : Origin) (target : Target) (n : ℕ) (signalled : Bool) (xs : List Entry) → AreNodes xs → (run (past_of origin target n signalled xs) empty).tees ≡ []
 past-teeless origin target n signalled xs a =
     run-teeless (past_of origin target n signalled xs) empty
     (teeless-append (opening origin target n signalled) (Called (piping (signal_of signalled) n) ∷ xs) (opening-teeless origin target n signalled) (tt, are-teeless xs a)) refl

@@ -295,14 +295,6 @@ nodes-first (Heard ∷ xs) ys a = nodes-first xs ys a
 plain-one : (r : Plain) (rs : List Plain) → Each_clones rs → Contains rs r → (entries : List Entry) → NeedsTee r entries
 plain-one r rs a c entries t is = let e : is_cloneable (Pair t) ≡ true = ap is_cloneable (sym is) ∙ among-clones rs a r (contained_among r rs c) in cc
 
--- what isn't the first is among the others
-but_first : (x r : Plain) (rs : List Plain) → (r ≡ x → ⊥) → Contains (x ∷ rs) r → Contains rs r
-but_first x r rs n c = among_contained r rs (by (same_reason x r) refl (contained_among r (x ∷ rs) c))
-  where
-    by : (same : Bool) → same_reason x r ≡ same → (same_reason x r || is_among r rs) ≡ true → is_among r rs ≡ true
-    by true e h = absurd (n (sym (reason_same x r e)))
-    by false e h = rw e at h
-
 pub each_node_error_is_older : EachNodeErrorIsOlder
 each_node_error_is_older origin target n signalled pre rest c up r before after few nodes brings none there side e =
     let xs : List Entry = pre ++ Called (Deliver c (ErrorMessage up)) ∷ rest in
@@ -311,9 +303,7 @@ each_node_error_is_older origin target n signalled pre rest c up r before after 
     let same : past_of origin target n signalled xs ≡ past ++ Called (Deliver c (ErrorMessage up)) ∷ rest =
     sym (append_assoc (opening origin target n signalled) (Called (piping (signal_of signalled) n) ∷ pre) (Called (Deliver c (ErrorMessage up)) ∷ rest)) in
     let posts : posted_in c (run_events (past ++ Called (Deliver c (ErrorMessage up)) ∷ rest) empty) ≡ before ++ ErrorMessage r ∷ after = ap (λ ys. posted_in c (run_events ys empty)) (sym same) ∙ e in
-    let other : r ≡ data_clone → ⊥ = λ d. none (subst (λ (x : Plain). Contains (failures xs) x) d among) in
-    let older : Contains (origins past) r =
-    but_first data_clone r (origins past) other (each_posted_error_is_older past rest c up r before after (plain-one r (failures xs) (failures-clone xs nodes brings) among past) there side posts) in
+    let older : Contains (origins past) r = each_posted_error_is_older past rest c up r before after (plain-one r (failures xs) (failures-clone xs nodes brings) among past) there side posts in
     let quiet = past-none origin target n signalled pre few (each_node_goes origin target n signalled pre few (nodes-first pre _ nodes)).quiet in
-    let port : NeedsPort r past = λ d. absurd (other d) in
+    let port : NeedsPort r past = λ d. absurd (none (subst (λ (x : Plain). Contains (failures xs) x) d among)) in
     subst (λ (ps : List Plain). Contains ps r) (past-fails origin target n signalled pre) (origin-failed past r quiet port older)

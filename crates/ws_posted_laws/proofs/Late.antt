@@ -1,5 +1,5 @@
 -- What a writable end of a port posts from the delivery of an error on: its stream is stopped by it, and posts nothing bad.
-use Rattle.std.proofs.Common.{◌≡◌, ℕ, zero, suc, Bool, true, false, List, [], ◌∷◌, ◌++◌, map, Option, Some, None, slice_get, refl, sym, ap, subst, ◌∙◌, arith}
+use Rattle.std.proofs.Common.{◌≡◌, ℕ, zero, suc, ◌+◌, Bool, true, false, if◌then◌else◌, List, [], ◌∷◌, ◌++◌, map, Option, Some, None, slice_get, refl, sym, ap, subst, ◌∙◌, arith}
 use Rattle.ws_value.specs.declared.ids.PipeId.{PipeId}
 use Rattle.ws_value.specs.declared.ids.PortId.{PortId}
 use Rattle.ws_value.specs.declared.ids.PromiseId.{PromiseId}
@@ -8,6 +8,8 @@ use Rattle.ws_value.specs.declared.ids.TeeId.{TeeId}
 use Rattle.ws_value.specs.declared.value.Message.{Message}
 use Rattle.ws_value.specs.declared.value.Message.TheVariants.{Pull as PullMessage, Chunk as ChunkMessage, Error as ErrorMessage}
 use Rattle.ws_value.specs.declared.value.Plain.{Plain}
+use Rattle.ws_value.specs.Values.{is_cloneable}
+use Rattle.ws_steps.specs.Queues.{first_value}
 use Rattle.ws_steps.specs.declared.calls.Call.{Call}
 use Rattle.ws_steps.specs.declared.calls.Reply.{Reply}
 use Rattle.ws_steps.specs.declared.calls.Reply.TheVariants.{Promise as ReplyPromise}
@@ -23,11 +25,11 @@ use Rattle.ws_steps.specs.declared.port.Side.TheVariants.{Writable as WritableSi
 use Rattle.ws_steps.specs.declared.readable.ReadRequest.TheVariants.{Promise, Pipe as PipeRequest, Tee as TeeRequest}
 use Rattle.ws_steps.specs.Calls.{begin, named}
 use Rattle.ws_steps.specs.Cross as cross
-use Rattle.ws_steps.specs.Cross.{data_clone}
+use Rattle.ws_steps.specs.Cross.{data_clone, clones_first}
 use Rattle.ws_steps.specs.Histories as histories
 use Rattle.ws_steps.specs.Histories.{is_same, run_events}
 use Rattle.ws_steps.specs.Jobs.{job_effects}
-use Rattle.ws_steps.specs.PortHistory.{posted_in}
+use Rattle.ws_steps.specs.PortHistory.{is_same_port, posted_in}
 use Rattle.ws_steps.specs.Promises.{after_next_job, watch}
 use Rattle.ws_steps.specs.Run.{Entry, Called, Worked, Heard, step, older, after_event}
 use Rattle.ws_steps.specs.Slots.{Slots, Stream, ReadableStream, ByteStream, WritableStream, Done, has_port, port_at, as_port, has_writable, owner_at, clones_at, with_promises}
@@ -45,7 +47,10 @@ use Rattle.ws_laws.proofs.TransformDoes.{TransformCauses}
 use Rattle.ws_laws.proofs.Walker.{Stays}
 use Rattle.ws_room_laws.proofs.Turns.{performed-kept}
 use Rattle.ws_reason_laws.proofs.Known.{Badness}
-use Rattle.ws_reason_laws.proofs.Runs.{clones-good}
+use Rattle.ws_reason_laws.proofs.Cloned.{Kept, first-clones}
+use Rattle.ws_reason_laws.proofs.Fair.{Free}
+use Rattle.ws_reason_laws.proofs.Ports.{Clones}
+use Rattle.ws_reason_laws.proofs.Sends.{Sends, operation-sends, stopped-sends}
 use Rattle.ws_tee_port_laws.proofs.ports.Fitting.{IsBegun, call-begun, job-begun}
 use Rattle.ws_tee_port_laws.proofs.ports.Once.{row-leaves, row-mine, by-port}
 use Rattle.ws_tee_port_laws.proofs.ports.Posting.{given, given_first}
@@ -68,12 +73,21 @@ use Rattle.ws_laws.proofs.Tables.{either, writable_acts, writable_there, on_sour
 use Rattle.ws_laws.proofs.Walker.{run-stays}
 use Rattle.ws_tee_port_laws.proofs.ports.Posting.{port_acts}
 
-module _ (bad : Badness) (me : PipeId) (c : PortId) (i : StreamId) (up : Plain) (cloned : bad.of data_clone ≡ 0) where
+-- `gave` tells whether what can't be cloned was given to a stream at the end of a port before
+module _ (bad : Badness) (me : PipeId) (c : PortId) (i : StreamId) (up : Plain) (gave : Bool) (free : Free bad.of gave) where
+  -- where it wasn't, nothing that can't be cloned stands on the agenda
+  abbrev pub held : Badness
+  held = record { of = λ r. bad.of r + (if gave then 0 else if is_cloneable r then 0 else 1); half = bad.half }
+
+  -- nor in the stream
+  abbrev pub Keeps : Slots → Type 0
+  Keeps s = gave ≡ false → Kept (writable_at i s)
+
   abbrev pub C : Effect → Type 0
-  C e = Calm bad me c i e
+  C e = Calm held me c i e
 
   abbrev pub F : Effect → Type 0
-  F e = Fine bad me c i e
+  F e = Fine held me c i e
 
   abbrev pub first_es : List Effect
   first_es = OnPort c (ports.Deliver (ErrorMessage up)) ∷ []
@@ -82,13 +96,13 @@ module _ (bad : Badness) (me : PipeId) (c : PortId) (i : StreamId) (up : Plain) 
   next_es = OnWritable i (writes.ErrorIfNeeded up) ∷ OnPort c ports.Unblock ∷ []
 
   abbrev pub owes : Slots → ℕ
-  owes s = pend bad.of (writable_at i s).pending_abort
+  owes s = pend held.of (writable_at i s).pending_abort
 
   -- the error comes; then it comes to the stream; and then that is stopped. Or the port isn't entangled
   pub data Stage (s : Slots) (es : List Effect) : Type 0 where
-    Coming : es ≡ first_es → owes s ≡ 0 → Stage s es
-    Erring : es ≡ next_es → owes s ≡ 0 → Stage s es
-    Cold : is_writable (writable_at i s).state ≡ false → owes s ≡ 0 → Each C es → Each F es → Stage s es
+    Coming : es ≡ first_es → owes s ≡ 0 → Keeps s → Stage s es
+    Erring : es ≡ next_es → owes s ≡ 0 → Keeps s → Stage s es
+    Cold : is_writable (writable_at i s).state ≡ false → owes s ≡ 0 → Keeps s → Each C es → Each F es → Stage s es
     Dead : (port_at c s).live ≡ false → Stage s es
 
   pub record Late (s : Slots) (es : List Effect) : Type 0 where
@@ -97,7 +111,7 @@ module _ (bad : Badness) (me : PipeId) (c : PortId) (i : StreamId) (up : Plain) 
     good : bad_in bad.of (posted c s.promises) ≡ 0
     stage : Stage s es
 
-  may : (s : Slots) → Ended s → slice_get (port_shapes s) c.0 ≡ Some (record { side = WritableSide; stream = i }) → MayHere bad me c i s
+  may : (s : Slots) → Ended s → slice_get (port_shapes s) c.0 ≡ Some (record { side = WritableSide; stream = i }) → MayHere held me c i s
   may s e h = record { port = λ x f. some_same x _ (sym f ∙ h); stream = λ y f. some_same y _ (sym f ∙ e.ends c (record { side = WritableSide; stream = i }) h) }
 
   -- the port
@@ -168,18 +182,43 @@ module _ (bad : Badness) (me : PipeId) (c : PortId) (i : StreamId) (up : Plain) 
       (ap (λ (o : Option cross.Slots). (as_port o).live) k.slot ∙ dead-live (clones_at (port_at c s) s) operation (port_acts c (port_at c s) s.promises) h, omega (arith, a, b, t, w))) l
   row-dead s e es l h = let k = row-leaves c e s tt in (ap (λ (o : Option cross.Slots). (as_port o).live) k.1 ∙ h, ap (bad_in bad.of) k.0 ∙ l.good)
 
-  row-good : (s : Slots) (e : Effect) (es : List Effect) → Late s (e ∷ es) → C e → bad_in bad.of (posted c (row e s).slots.promises) ≡ 0
-  row-good s (OnPort d operation) es l m =
-      by-port c (λ (d : PortId). Late s (OnPort d operation ∷ es) → C (OnPort d operation) → bad_in bad.of (posted c (row (OnPort d operation) s).slots.promises) ≡ 0) d
-      (λ away l m. ap (bad_in bad.of) (row-leaves c (OnPort d operation) s away).0 ∙ l.good)
-      (λ l m.
+  -- a write that goes on finds a chunk that can be cloned
+  abbrev Owns : Slots → Effect → Type 0
+  Owns s (OnPort d (ports.WriteGoesOn q)) = gave ≡ false → clones_at (port_at c s) s ≡ true
+  Owns s _ = Unit {0}
+
+  self : is_same_port c c ≡ true
+  self = grind arith
+
+  calm-down : (operation : PortOperation) → C (OnPort c operation) → Calm bad me c i (OnPort c operation)
+  calm-down (ports.Leave r u) m = λ same. let h = m same in omega (arith, h)
+  calm-down _ m = tt
+
+  left : (r : Plain) (b : Bool) → gave ≡ b → is_cloneable r ≡ false → held.of r ≡ 0 → bad.of data_clone ≡ 0
+  left r true e n h = free e
+  left r false e n h = let k : bad.of r + 1 ≡ 0 = rw (e, n) at h in absurd (omega (arith, k))
+
+  went : (clones b : Bool) → gave ≡ b → (gave ≡ false → clones ≡ true) → clones ≡ false → bad.of data_clone ≡ 0
+  went clones true e own n = free e
+  went clones false e own n = let no : true ≡ false = sym (own e) ∙ n in cc
+
+  can : (s : Slots) (operation : PortOperation) → C (OnPort c operation) → Owns s (OnPort c operation) → Clones bad.of (clones_at (port_at c s) s) operation
+  can s (ports.Leave r u) m own = λ n. left r gave refl n (m self)
+  can s (ports.WriteGoesOn d) m own = λ n. went (clones_at (port_at c s) s) gave refl own n
+  can s _ m own = tt
+
+  row-good : (s : Slots) (e : Effect) (es : List Effect) → Late s (e ∷ es) → C e → Owns s e → bad_in bad.of (posted c (row e s).slots.promises) ≡ 0
+  row-good s (OnPort d operation) es l m own =
+      by-port c (λ (d : PortId). Late s (OnPort d operation ∷ es) → C (OnPort d operation) → Owns s (OnPort d operation) → bad_in bad.of (posted c (row (OnPort d operation) s).slots.promises) ≡ 0) d
+      (λ away l m own. ap (bad_in bad.of) (row-leaves c (OnPort d operation) s away).0 ∙ l.good)
+      (λ l m own.
       let k = row-mine c operation s (port_at c s) (there s (OnPort c operation ∷ es) l) in
-      let g = given-good bad me c i (clones_at (port_at c s) s) operation (port_at c s) m (clones-good bad.of (clones_at (port_at c s) s) operation cloned) in
+      let g = given-good bad me c i (clones_at (port_at c s) s) operation (port_at c s) (calm-down operation m) (can s operation m own) in
       let a = bad_in-append bad.of (posted c s.promises) (given (clones_at (port_at c s) s) operation (port_at c s)) in
       let t = ap (bad_in bad.of) k.told in
       let w = l.good in
-      omega (arith, a, g, t, w)) l m
-  row-good s e es l m = ap (bad_in bad.of) (row-leaves c e s tt).0 ∙ l.good
+      omega (arith, a, g, t, w)) l m own
+  row-good s e es l m own = ap (bad_in bad.of) (row-leaves c e s tt).0 ∙ l.good
 
   -- which effects cause an abort
 
@@ -251,7 +290,7 @@ module _ (bad : Badness) (me : PipeId) (c : PortId) (i : StreamId) (up : Plain) 
   row-none (ErrorSteps k (TeeRequest b) r) s n = (tt, tt)
   row-none _ s n = tt
 
-  no-aborts : (es : List Effect) → aborts bad.of es ≡ 0 → Each F es
+  no-aborts : (es : List Effect) → aborts held.of es ≡ 0 → Each F es
   no-aborts [] h = tt
   no-aborts (AbortAlgorithm k r q ∷ es) h = (λ same. omega (arith, h), no-aborts es (omega (arith, h)))
   no-aborts (e ∷ es) h = (tt, no-aborts es (omega (arith, h)))
@@ -280,19 +319,36 @@ module _ (bad : Badness) (me : PipeId) (c : PortId) (i : StreamId) (up : Plain) 
     owed : owes (row (OnWritable i operation) s).slots ≡ 0
     fine : Each F (row (OnWritable i operation) s).caused
 
-  own-down : (s : Slots) (operation : WritableOperation) → has_writable i s ≡ true → owes s ≡ 0 → Down bad.of (writable_acts i s) (writable_operation i operation (writable_acts i s)) → Stays-down s operation
+  own-down : (s : Slots) (operation : WritableOperation) → has_writable i s ≡ true → owes s ≡ 0 → Down held.of (writable_acts i s) (writable_operation i operation (writable_acts i s)) → Stays-down s operation
   unfolding row
   own-down s operation h o d =
       let at : writable_at i (on_writable (writable_operation i operation) i s).slots ≡ (writable_operation i operation (writable_acts i s)).slots = ap as_writable (on_writable-same (writable_operation i operation) i s h) in
       let es : (on_writable (writable_operation i operation) i s).caused ≡ (writable_operation i operation (writable_acts i s)).out.effects = rw h refl in
       let l = d.less in
-      let p : owes (on_writable (writable_operation i operation) i s).slots ≡ pend bad.of (writable_operation i operation (writable_acts i s)).slots.pending_abort = ap (λ (w : writable.Slots). pend bad.of w.pending_abort) at in
-      let q : aborts bad.of (on_writable (writable_operation i operation) i s).caused ≡ aborts bad.of (writable_operation i operation (writable_acts i s)).out.effects = ap (aborts bad.of) es in
+      let p : owes (on_writable (writable_operation i operation) i s).slots ≡ pend held.of (writable_operation i operation (writable_acts i s)).slots.pending_abort = ap (λ (w : writable.Slots). pend held.of w.pending_abort) at in
+      let q : aborts held.of (on_writable (writable_operation i operation) i s).caused ≡ aborts held.of (writable_operation i operation (writable_acts i s)).out.effects = ap (aborts held.of) es in
       record {
         stopped = ap (λ (w : writable.Slots). is_writable w.state) at ∙ d.stopped;
         owed = omega (arith, l, o, p);
         fine = no-aborts (on_writable (writable_operation i operation) i s).caused (omega (arith, l, o, q));
       }
+
+  own-keeps : (s : Slots) (operation : WritableOperation) → has_writable i s ≡ true → (Sends (writable_acts i s) → Sends (writable_operation i operation (writable_acts i s))) → Keeps s → Keeps (row (OnWritable i operation) s).slots
+  unfolding row
+  own-keeps s operation h sends keeps g =
+      let k = keeps g in
+      let sent = sends (record { queue = k.0; abort = k.1; effects = tt }) in
+      subst (λ (o : Option Stream). Kept (as_writable o)) (sym (on_writable-same (writable_operation i operation) i s h)) (sent.queue, sent.abort)
+
+  -- where the stream is the same
+  still : (s z : Slots) → writable_at i z ≡ writable_at i s → Keeps s → Keeps z
+  still s z same keeps g = subst Kept (sym same) (keeps g)
+
+  -- what a write finds that goes on
+  owns : (s : Slots) (e : Effect) → (port_at c s).stream ≡ i → Keeps s → Owns s e
+  owns s (OnPort d (ports.WriteGoesOn q)) is keeps =
+      λ g. subst (λ (j : StreamId). clones_first (first_value (writable_at j s).queue) ≡ true) (sym is) (first-clones (writable_at i s).queue (keeps g).0)
+  owns s _ is keeps = tt
 
   -- each effect
 
@@ -309,13 +365,13 @@ module _ (bad : Badness) (me : PipeId) (c : PortId) (i : StreamId) (up : Plain) 
   unfolding deliver
   come-es x t clones h side stream = rw (h, side, stream) refl
 
-  coming-row : (s : Slots) → Late s first_es → owes s ≡ 0 → G s (OnPort c (ports.Deliver (ErrorMessage up))) []
-  coming-row s l o =
+  coming-row : (s : Slots) → Late s first_es → owes s ≡ 0 → Keeps s → G s (OnPort c (ports.Deliver (ErrorMessage up))) []
+  coming-row s l o keeps =
       let e : Effect = OnPort c (ports.Deliver (ErrorMessage up)) in
       let x : cross.Slots = port_at c s in
       let k = row-mine c (ports.Deliver (ErrorMessage up)) s x (there s first_es l) in
       let shape = shape-is s first_es l in
-      goes s e [] l (row-good s e [] l tt) (by x.live refl)
+      goes s e [] l (row-good s e [] l tt tt) (by x.live refl)
     where
       by : (b : Bool) → b ≡ (port_at c s).live → Stage (row (OnPort c (ports.Deliver (ErrorMessage up))) s).slots ((row (OnPort c (ports.Deliver (ErrorMessage up))) s).caused ++ [])
       by false f = Dead (row-dead s (OnPort c (ports.Deliver (ErrorMessage up))) [] l (sym f)).0
@@ -323,62 +379,65 @@ module _ (bad : Badness) (me : PipeId) (c : PortId) (i : StreamId) (up : Plain) 
           let k = row-mine c (ports.Deliver (ErrorMessage up)) s (port_at c s) (there s first_es l) in
           let shape = shape-is s first_es l in
           let es = k.caused ∙ come-es (port_at c s) s.promises (clones_at (port_at c s) s) (sym f) (ap (λ (y : PortShape). y.side) shape) (ap (λ (y : PortShape). y.stream) shape) in
-          Erring (ap (λ zs. zs ++ []) es) (ap (λ (w : writable.Slots). pend bad.of w.pending_abort) (no-sink-same (OnPort c (ports.Deliver (ErrorMessage up))) s tt) ∙ o)
+          Erring (ap (λ zs. zs ++ []) es) (ap (λ (w : writable.Slots). pend held.of w.pending_abort) (no-sink-same (OnPort c (ports.Deliver (ErrorMessage up))) s tt) ∙ o)
+          (still s (row (OnPort c (ports.Deliver (ErrorMessage up))) s).slots (no-sink-same (OnPort c (ports.Deliver (ErrorMessage up))) s tt) keeps)
 
-  erring-row : (s : Slots) → Late s next_es → owes s ≡ 0 → G s (OnWritable i (writes.ErrorIfNeeded up)) (OnPort c ports.Unblock ∷ [])
-  erring-row s l o =
+  erring-row : (s : Slots) → Late s next_es → owes s ≡ 0 → Keeps s → G s (OnWritable i (writes.ErrorIfNeeded up)) (OnPort c ports.Unblock ∷ [])
+  erring-row s l o keeps =
       let e : Effect = OnWritable i (writes.ErrorIfNeeded up) in
-      let d = own-down s (writes.ErrorIfNeeded up) (has-sink s l.ended l.port) o (needed-down bad.of i up (writable_acts i s)) in
-      let cs = row-caused bad me c i s l.ended (may s l.ended l.port) e tt tt in
-      goes s e (OnPort c ports.Unblock ∷ []) l (row-good s e (OnPort c ports.Unblock ∷ []) l tt)
-      (Cold d.stopped d.owed (each-append C (row e s).caused (OnPort c ports.Unblock ∷ []) cs (tt, tt)) (each-append F (row e s).caused (OnPort c ports.Unblock ∷ []) d.fine (tt, tt)))
+      let d = own-down s (writes.ErrorIfNeeded up) (has-sink s l.ended l.port) o (needed-down held.of i up (writable_acts i s)) in
+      let cs = row-caused held me c i s l.ended (may s l.ended l.port) e tt tt in
+      goes s e (OnPort c ports.Unblock ∷ []) l (row-good s e (OnPort c ports.Unblock ∷ []) l tt tt)
+      (Cold d.stopped d.owed (own-keeps s (writes.ErrorIfNeeded up) (has-sink s l.ended l.port) (λ h. operation-sends i (writes.ErrorIfNeeded up) (writable_acts i s) refl h) keeps) (each-append C (row e s).caused (OnPort c ports.Unblock ∷ []) cs (tt, tt)) (each-append F (row e s).caused (OnPort c ports.Unblock ∷ []) d.fine (tt, tt)))
 
   sink-other : (s : Slots) (k : StreamId) (operation : WritableOperation) → is_same i k ≡ false → writable_at i (row (OnWritable k operation) s).slots ≡ writable_at i s
   unfolding row
   sink-other s k operation n = ap as_writable (on_writable-other (writable_operation k operation) k s i n)
 
-  cold-sink : (s : Slots) (k : StreamId) (operation : WritableOperation) (es : List Effect) → Late s (OnWritable k operation ∷ es) → is_writable (writable_at i s).state ≡ false → owes s ≡ 0 → Each C (OnWritable k operation ∷ es) → Each F (OnWritable k operation ∷ es) → G s (OnWritable k operation) es
-  cold-sink s k operation es l w o m f = by (is_same i k) refl
+  cold-sink : (s : Slots) (k : StreamId) (operation : WritableOperation) (es : List Effect) → Late s (OnWritable k operation ∷ es) → is_writable (writable_at i s).state ≡ false → owes s ≡ 0 → Keeps s → Each C (OnWritable k operation ∷ es) → Each F (OnWritable k operation ∷ es) → G s (OnWritable k operation) es
+  cold-sink s k operation es l w o keeps m f = by (is_same i k) refl
     where
       by : (same : Bool) → same ≡ is_same i k → G s (OnWritable k operation) es
       by false n =
           let e : Effect = OnWritable k operation in
           let at = sink-other s k operation (sym n) in
-          let cs = row-caused bad me c i s l.ended (may s l.ended l.port) e tt tt in
+          let cs = row-caused held me c i s l.ended (may s l.ended l.port) e tt tt in
           let fs : Each F (row e s).caused = row-causes F e s (record { write = tt; close = tt; abort = λ r q same. (let no : true ≡ false = sym same ∙ sym n in cc); hand_on = λ v. tt; take = λ v t d. tt; post = λ v d p. tt }) in
-          goes s e es l (row-good s e es l tt)
-          (Cold (ap (λ (x : writable.Slots). is_writable x.state) at ∙ w) (ap (λ (x : writable.Slots). pend bad.of x.pending_abort) at ∙ o) (each-append C (row e s).caused es cs m.1) (each-append F (row e s).caused es fs f.1))
+          goes s e es l (row-good s e es l tt tt)
+          (Cold (ap (λ (x : writable.Slots). is_writable x.state) at ∙ w) (ap (λ (x : writable.Slots). pend held.of x.pending_abort) at ∙ o) (still s (row e s).slots at keeps) (each-append C (row e s).caused es cs m.1) (each-append F (row e s).caused es fs f.1))
       by true n =
           subst (λ (x : StreamId). Late s (OnWritable x operation ∷ es) → G s (OnWritable x operation) es) (same_id i k (sym n))
           (λ l.
           let e : Effect = OnWritable i operation in
-          let d = own-down s operation (has-sink s l.ended l.port) o (operation-down bad.of i operation (writable_acts i s) w) in
-          let cs = row-caused bad me c i s l.ended (may s l.ended l.port) e tt tt in
-          goes s e es l (row-good s e es l tt) (Cold d.stopped d.owed (each-append C (row e s).caused es cs m.1) (each-append F (row e s).caused es d.fine f.1))) l
+          let d = own-down s operation (has-sink s l.ended l.port) o (operation-down held.of i operation (writable_acts i s) w) in
+          let cs = row-caused held me c i s l.ended (may s l.ended l.port) e tt tt in
+          goes s e es l (row-good s e es l tt tt)
+          (Cold d.stopped d.owed (own-keeps s operation (has-sink s l.ended l.port) (λ h. stopped-sends i operation (writable_acts i s) w h) keeps) (each-append C (row e s).caused es cs m.1) (each-append F (row e s).caused es d.fine f.1))) l
 
-  cold-other : (s : Slots) (e : Effect) (es : List Effect) → IsNoSink e → Late s (e ∷ es) → is_writable (writable_at i s).state ≡ false → owes s ≡ 0 → Each C (e ∷ es) → Each F (e ∷ es) → G s e es
-  cold-other s e es n l w o m f =
+  cold-other : (s : Slots) (e : Effect) (es : List Effect) → IsNoSink e → Late s (e ∷ es) → is_writable (writable_at i s).state ≡ false → owes s ≡ 0 → Keeps s → Each C (e ∷ es) → Each F (e ∷ es) → G s e es
+  cold-other s e es n l w o keeps m f =
       let at = no-sink-same e s n in
-      let cs = row-caused bad me c i s l.ended (may s l.ended l.port) e m.0 f.0 in
+      let cs = row-caused held me c i s l.ended (may s l.ended l.port) e m.0 f.0 in
       let fs = each-map NoAbort F none-fine (row e s).caused (row-none e s n) in
-      goes s e es l (row-good s e es l m.0)
-      (Cold (ap (λ (x : writable.Slots). is_writable x.state) at ∙ w) (ap (λ (x : writable.Slots). pend bad.of x.pending_abort) at ∙ o) (each-append C (row e s).caused es cs m.1) (each-append F (row e s).caused es fs f.1))
+      let stream = ap (λ (y : PortShape). y.stream) (shape-is s (e ∷ es) l) in
+      goes s e es l (row-good s e es l m.0 (owns s e stream keeps))
+      (Cold (ap (λ (x : writable.Slots). is_writable x.state) at ∙ w) (ap (λ (x : writable.Slots). pend held.of x.pending_abort) at ∙ o) (still s (row e s).slots at keeps) (each-append C (row e s).caused es cs m.1) (each-append F (row e s).caused es fs f.1))
 
-  cold-row : (s : Slots) (e : Effect) (es : List Effect) → Late s (e ∷ es) → is_writable (writable_at i s).state ≡ false → owes s ≡ 0 → Each C (e ∷ es) → Each F (e ∷ es) → G s e es
-  cold-row s (OnWritable k operation) es l w o m f = cold-sink s k operation es l w o m f
-  cold-row s e es l w o m f = cold-other s e es tt l w o m f
+  cold-row : (s : Slots) (e : Effect) (es : List Effect) → Late s (e ∷ es) → is_writable (writable_at i s).state ≡ false → owes s ≡ 0 → Keeps s → Each C (e ∷ es) → Each F (e ∷ es) → G s e es
+  cold-row s (OnWritable k operation) es l w o keeps m f = cold-sink s k operation es l w o keeps m f
+  cold-row s e es l w o keeps m f = cold-other s e es tt l w o keeps m f
 
   row-late : (s : Slots) (e : Effect) (es : List Effect) → Late s (e ∷ es) → G s e es
   row-late s e es l = by l.stage
     where
       by : Stage s (e ∷ es) → G s e es
-      by (Coming q o) =
+      by (Coming q o keeps) =
           let h = heads e (OnPort c (ports.Deliver (ErrorMessage up))) es [] q in
-          subst (λ (x : Effect). G s x es) (sym h.0) (subst (λ ys. G s (OnPort c (ports.Deliver (ErrorMessage up))) ys) (sym h.1) (coming-row s (subst (λ zs. Late s zs) q l) o))
-      by (Erring q o) =
+          subst (λ (x : Effect). G s x es) (sym h.0) (subst (λ ys. G s (OnPort c (ports.Deliver (ErrorMessage up))) ys) (sym h.1) (coming-row s (subst (λ zs. Late s zs) q l) o keeps))
+      by (Erring q o keeps) =
           let h = heads e (OnWritable i (writes.ErrorIfNeeded up)) es (OnPort c ports.Unblock ∷ []) q in
-          subst (λ (x : Effect). G s x es) (sym h.0) (subst (λ ys. G s (OnWritable i (writes.ErrorIfNeeded up)) ys) (sym h.1) (erring-row s (subst (λ zs. Late s zs) q l) o))
-      by (Cold w o m f) = cold-row s e es l w o m f
+          subst (λ (x : Effect). G s x es) (sym h.0) (subst (λ ys. G s (OnWritable i (writes.ErrorIfNeeded up)) ys) (sym h.1) (erring-row s (subst (λ zs. Late s zs) q l) o keeps))
+      by (Cold w o keeps m f) = cold-row s e es l w o keeps m f
       by (Dead h) = let k = row-dead s e es l h in goes s e es l k.1 (Dead k.0)
 
   -- calls, jobs and runs
@@ -436,23 +495,23 @@ module _ (bad : Badness) (me : PipeId) (c : PortId) (i : StreamId) (up : Plain) 
       }
     where
       by : writable_at i (begin call s).done.slots ≡ writable_at i s → (port_at c (begin call s).done.slots).live ≡ (port_at c s).live → Stage s [] → Stage (begin call s).done.slots (begin call s).done.caused
-      by same live (Coming q o) = cc
-      by same live (Erring q o) = cc
-      by same live (Cold w o m f) = Cold (ap (λ (x : writable.Slots). is_writable x.state) same ∙ w) (ap (λ (x : writable.Slots). pend bad.of x.pending_abort) same ∙ o) (each-map IsBegun C (begun-calm bad me c i) (begin call s).done.caused (call-begun call s)) (each-map IsBegun F begun-fine (begin call s).done.caused (call-begun call s))
+      by same live (Coming q o keeps) = cc
+      by same live (Erring q o keeps) = cc
+      by same live (Cold w o keeps m f) = Cold (ap (λ (x : writable.Slots). is_writable x.state) same ∙ w) (ap (λ (x : writable.Slots). pend held.of x.pending_abort) same ∙ o) (still s (begin call s).done.slots same keeps) (each-map IsBegun C (begun-calm held me c i) (begin call s).done.caused (call-begun call s)) (each-map IsBegun F begun-fine (begin call s).done.caused (call-begun call s))
       by same live (Dead h) = Dead (live ∙ h)
 
   -- where the slots are alike
   alike-stage : (s z : Slots) (es : List Effect) → writable_at i z ≡ writable_at i s → port_at c z ≡ port_at c s → Each C es → Each F es → Stage s [] → Stage z es
-  alike-stage s z es same live m f (Coming q o) = cc
-  alike-stage s z es same live m f (Erring q o) = cc
-  alike-stage s z es same live m f (Cold w o n g) = Cold (ap (λ (x : writable.Slots). is_writable x.state) same ∙ w) (ap (λ (x : writable.Slots). pend bad.of x.pending_abort) same ∙ o) m f
+  alike-stage s z es same live m f (Coming q o keeps) = cc
+  alike-stage s z es same live m f (Erring q o keeps) = cc
+  alike-stage s z es same live m f (Cold w o keeps n g) = Cold (ap (λ (x : writable.Slots). is_writable x.state) same ∙ w) (ap (λ (x : writable.Slots). pend held.of x.pending_abort) same ∙ o) (still s z same keeps) m f
   alike-stage s z es same live m f (Dead h) = Dead (ap (λ (x : cross.Slots). x.live) live ∙ h)
 
   late-stays : Stays Late
   late-stays = record {
     row = row-late;
     call = call-late;
-    job = λ s job e l. record { port = l.port; ended = l.ended; good = ap (λ es. bad_in bad.of (posted_in c es)) (next-events s.promises) ∙ l.good; stage = alike-stage s (with_promises (after_next_job s.promises) s) (job_effects job) refl refl (each-map IsBegun C (begun-calm bad me c i) (job_effects job) (job-begun job)) (each-map IsBegun F begun-fine (job_effects job) (job-begun job)) l.stage };
+    job = λ s job e l. record { port = l.port; ended = l.ended; good = ap (λ es. bad_in bad.of (posted_in c es)) (next-events s.promises) ∙ l.good; stage = alike-stage s (with_promises (after_next_job s.promises) s) (job_effects job) refl refl (each-map IsBegun C (begun-calm held me c i) (job_effects job) (job-begun job)) (each-map IsBegun F begun-fine (job_effects job) (job-begun job)) l.stage };
     answered = λ s p l. record { port = l.port; ended = l.ended; good = ap (bad_in bad.of) (watch-posted c p s.promises) ∙ l.good; stage = alike-stage s (with_promises (watch p s.promises) s) [] refl refl tt tt l.stage };
     older = λ s l. record { port = l.port; ended = l.ended; good = l.good; stage = alike-stage s (older s) [] refl refl tt tt l.stage };
   }
@@ -487,10 +546,10 @@ module _ (bad : Badness) (me : PipeId) (c : PortId) (i : StreamId) (up : Plain) 
   named-late (ReplyPromise q) s l = late-stays.older _ (late-stays.answered s q l)
   named-late _ s l = late-stays.older s l
 
-  pub first-late : (s : Slots) → has_port c s ≡ true → slice_get (port_shapes s) c.0 ≡ Some (record { side = WritableSide; stream = i }) → Ended s → bad_in bad.of (posted c s.promises) ≡ 0 → owes s ≡ 0 → Late (step s (Called (Deliver c (ErrorMessage up)))) []
-  first-late s h p e g o =
+  pub first-late : (s : Slots) → has_port c s ≡ true → slice_get (port_shapes s) c.0 ≡ Some (record { side = WritableSide; stream = i }) → Ended s → bad_in bad.of (posted c s.promises) ≡ 0 → owes s ≡ 0 → Keeps s → Late (step s (Called (Deliver c (ErrorMessage up)))) []
+  first-late s h p e g o keeps =
       let call : Call = Deliver c (ErrorMessage up) in
-      let start : Late s first_es = record { port = p; ended = e; good = g; stage = Coming refl o } in
+      let start : Late s first_es = record { port = p; ended = e; good = g; stage = Coming refl o keeps } in
       let is = begun-is s h in
       let begun : Late (begin call s).done.slots (begin call s).done.caused = subst (λ (b : Begun). Late b.done.slots b.done.caused) (sym is) start in
       named-late (begin call s).reply (performed (begin call s).done) (performed-late (begin call s).done begun)

@@ -6,7 +6,6 @@ use Rattle.ws_value.specs.declared.value.Message.TheVariants.{Error}
 use Rattle.ws_value.specs.declared.value.Plain.{Plain}
 use Rattle.ws_steps.specs.declared.calls.Call.TheVariants.{Deliver}
 use Rattle.ws_steps.specs.declared.port.Side.TheVariants.{Writable as WritableSide}
-use Rattle.ws_steps.specs.Cross.{data_clone}
 use Rattle.ws_steps.specs.Histories.{run_events}
 use Rattle.ws_steps.specs.PortHistory.{posted_in}
 use Rattle.ws_steps.specs.Run.{Entry, Called, run}
@@ -24,4 +23,4 @@ abbrev pub EachPostedErrorIsOlder : Type 0
 EachPostedErrorIsOlder =
     (past xs : List Entry) (c : PortId) (up r : Plain) (before after : List Message) → NeedsTee r past
     → has_port c (run past empty) ≡ true → (port_at c (run past empty)).side ≡ WritableSide
-    → posted_in c (run_events (past ++ Called (Deliver c (Error up)) ∷ xs) empty) ≡ before ++ Error r ∷ after → Contains (data_clone ∷ origins past) r
+    → posted_in c (run_events (past ++ Called (Deliver c (Error up)) ∷ xs) empty) ≡ before ++ Error r ∷ after → Contains (origins past) r

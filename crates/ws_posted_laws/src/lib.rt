@@ -21,7 +21,7 @@ pub fn each_posted_error_has_an_origin()
 /// reason that the run had before that delivery.
 ///
 /// It is the reason of a failure of that first part of the run, or one that a call of it brought through a transform
-/// stream or into a byte stream, as in `each_posted_error_has_an_origin`, or a DataCloneError. So the port posts no
+/// stream or into a byte stream, or a DataCloneError, all as in `each_posted_error_has_an_origin`. So the port posts no
 /// error because of the one that was delivered, nor because of anything that came later: from then on the stream at
 /// that end isn't writable, and no later abort comes to the port. Where several errors were delivered to it, the first
 /// of them tells most. Whether the port was still entangled plays no part. This is said of each reason but the pair of

@@ -63,7 +63,7 @@ use Rattle.ws_reason_laws.proofs.Ports.{Clones}
 use Rattle.ws_reason_laws.proofs.Sends.{Calm, record_cloned, all_cloned, abort_cloned, operation-sends}
 
 -- what a stream keeps that can be cloned
-abbrev Kept : writable.Slots → Type 0
+abbrev pub Kept : writable.Slots → Type 0
 Kept w = (all_cloned w.queue ≡ true) × (abort_cloned w.pending_abort ≡ true)
 
 abbrev Streams : Slots → Type 0
@@ -354,7 +354,7 @@ run-cloned xs n = run-holds false or or-history effect_uncloned Fine goes rests 
 
 -- so what a port is given to send can be cloned
 
-first-clones : (queue : List (Queued WriteRecord)) → all_cloned queue ≡ true → clones_first (first_value queue) ≡ true
+pub first-clones : (queue : List (Queued WriteRecord)) → all_cloned queue ≡ true → clones_first (first_value queue) ≡ true
 first-clones [] h = refl
 first-clones (q ∷ qs) h = by q.value h
   where
@@ -376,7 +376,7 @@ end-there [] n c side e = cc
 end-there (x ∷ xs) zero c side e = end-owner x c side e
 end-there (x ∷ xs) (suc n) c side e = end-there xs n c side e
 
-port-end : (s : Slots) (c : PortId) (x : cross.Slots) → Ended s → slice_get s.ports c.0 ≡ Some x → is_end (owner_at x.stream s) ≡ true
+pub port-end : (s : Slots) (c : PortId) (x : cross.Slots) → Ended s → slice_get s.ports c.0 ≡ Some x → is_end (owner_at x.stream s) ≡ true
 port-end s c x ended there = end-there s.streams x.stream.0 c x.side (ended.ends c (port_shape x) (map-there port_shape s.ports c.0 x there))
 
 pub cloned-fits : (bad : Plain → ℕ) (s : Slots) (c : PortId) (operation : PortOperation) (es : List Effect) → Ended s → Cloned s (OnPort c operation ∷ es) → (x : cross.Slots) → slice_get s.ports c.0 ≡ Some x → Clones bad (clones_at x s) operation

@@ -1,5 +1,5 @@
 -- A writable stream keeps no chunk and no reason of an abort that can't be cloned, and performs its abort algorithm with none, where none is given to it.
-use Rattle.std.proofs.Common.{◌≡◌, ℕ, Bool, true, false, not, ◌&&◌, ◌||◌, is_none, List, [], ◌∷◌, ◌++◌, Option, Some, None, Result, Ok, Err, refl, arith}
+use Rattle.std.proofs.Common.{◌≡◌, ℕ, Bool, true, false, not, ◌&&◌, ◌||◌, is_none, List, [], ◌∷◌, ◌++◌, Option, Some, None, Result, Ok, Err, refl, ◌∙◌, arith}
 use Rattle.ws_value.specs.declared.ids.PromiseId.{PromiseId}
 use Rattle.ws_value.specs.declared.ids.StreamId.{StreamId}
 use Rattle.ws_value.specs.declared.value.Plain.{Plain}
@@ -17,10 +17,12 @@ use Rattle.ws_steps.specs.declared.transform.Taker.TheVariants.{ToHost, ToTransf
 use Rattle.ws_steps.specs.declared.writable.PendingAbort.{PendingAbort}
 use Rattle.ws_steps.specs.declared.writable.WritableOperation.{WritableOperation}
 use Rattle.ws_steps.specs.declared.writable.WritableOperation.TheVariants as names
-use Rattle.ws_steps.specs.declared.writable.WritableState.TheVariants.{Erroring, Errored, Closed}
+use Rattle.ws_steps.specs.declared.writable.WritableState.{WritableState}
+use Rattle.ws_steps.specs.declared.writable.WritableState.TheVariants.{Writable, Erroring, Errored, Closed}
 use Rattle.ws_steps.specs.declared.writable.WriteRecord.{WriteRecord}
 use Rattle.ws_steps.specs.declared.writable.WriteRecord.TheVariants.{Chunk, InFlight, CloseMark}
 use Rattle.ws_steps.specs.declared.writable.Writer.{Writer}
+use Rattle.ws_steps.specs.Effects.{type_error}
 use Rattle.ws_steps.specs.Operations.{writable_operation}
 use Rattle.ws_steps.specs.Promises.{settle}
 use Rattle.ws_steps.specs.Queues.{first_value, with_first_value, rest_of, enqueued, size_of}
@@ -263,6 +265,46 @@ module _ (me : StreamId) where
   given : (b : Bool) → not b ≡ false → b ≡ true
   given b e = grind (arith, e)
 
+  -- a stream that isn't writable takes no chunk, and no reason of an abort
+
+  refused : (s : Slots) (state : WritableState) → s.state ≡ state → is_writable state ≡ false → (e : Plain) × (write_refusal s ≡ Some e)
+  refused s Writable is n = cc
+  refused s Erroring is n =
+      by (is_closing s) refl
+    where
+      by : (b : Bool) → is_closing s ≡ b → (e : Plain) × (write_refusal s ≡ Some e)
+      by true e = (type_error, rw (is, e) refl)
+      by false e = (s.stored_error, rw (is, e) refl)
+  refused s Errored is n = (s.stored_error, rw is refl)
+  refused s Closed is n =
+      by (is_closing s) refl
+    where
+      by : (b : Bool) → is_closing s ≡ b → (e : Plain) × (write_refusal s ≡ Some e)
+      by true e = (type_error, rw (is, e) refl)
+      by false e = (type_error, rw (is, e) refl)
+
+  erroring : (state : WritableState) → is_writable state ≡ false → has_ended state ≡ false → state ≡ Erroring
+  erroring Writable w e = cc
+  erroring Erroring w e = refl
+  erroring Errored w e = cc
+  erroring Closed w e = cc
+
+  state-of : (r : Plain) (a : Acts) (o : Owner) → (signalled me r a o).slots.state ≡ a.slots.state
+  state-of r a Host = refl
+  state-of r a (HalfOf t) = refl
+  state-of r a (BranchOf t half) = refl
+  state-of r a (EndOf c) = refl
+
+  late-begin : (r : Plain) (p : PromiseId) (a : Acts) → a.slots.state ≡ Erroring → Sends a → Sends (begin_abort me r p a)
+  late-begin r p a is h = rw is (record { queue = h.queue; abort = refl; effects = h.effects })
+
+  late-abort : (r : Plain) (p : PromiseId) (a : Acts) → is_writable a.slots.state ≡ false → Sends a → Sends (stream_abort me r p a)
+  unfolding stream_abort
+  late-abort r p a s h =
+      let b : Acts = signalled me r a a.slots.owner in
+      either Sends (has_ended a.slots.state) _ (begin_abort me r p b) (λ e. record { queue = h.queue; abort = h.abort; effects = h.effects })
+      (λ e. late-begin r p b (state-of r a a.slots.owner ∙ erroring a.slots.state s e) (signalled-sends r a a.slots.owner h))
+
   pub operation-sends : (operation : WritableOperation) (a : Acts) → writes_uncloned operation ≡ false → Sends a → Sends (writable_operation me operation a)
   unfolding set_up_writer writer_release writer_write hand_on start_settled write_settled close_settled finish_in_flight_close_with_error abort_settled
   operation-sends (names.SetUpWriter w) a n h = record { queue = h.queue; abort = h.abort; effects = h.effects }
@@ -284,3 +326,12 @@ module _ (me : StreamId) where
   operation-sends (names.CloseSettled (Err e)) a n h = deal-sends e (abort_ended (Err e) (close_ended (Err e) a)) (record { queue = h.queue; abort = refl; effects = h.effects })
   operation-sends (names.AbortSettled p (Ok v)) a n h = both-sends (with_promises (settle p (Ok Undefined) a.out.promises) a) (record { queue = h.queue; abort = h.abort; effects = h.effects })
   operation-sends (names.AbortSettled p (Err e)) a n h = both-sends (with_promises (settle p (Err e) a.out.promises) a) (record { queue = h.queue; abort = h.abort; effects = h.effects })
+
+  -- so whatever is asked of such a stream
+  pub stopped-sends : (operation : WritableOperation) (a : Acts) → is_writable a.slots.state ≡ false → Sends a → Sends (writable_operation me operation a)
+  unfolding writer_write abort_if_writable
+  stopped-sends (names.Write v p) a s h =
+      let r = refused a.slots a.slots.state refl s in rw r.1 (record { queue = h.queue; abort = h.abort; effects = h.effects })
+  stopped-sends (names.Abort r p) a s h = late-abort r p a s h
+  stopped-sends (names.AbortIfWritable r p) a s h = rw s (record { queue = h.queue; abort = h.abort; effects = h.effects })
+  stopped-sends operation a s h = operation-sends operation a refl h

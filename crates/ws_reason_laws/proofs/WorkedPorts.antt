@@ -1,9 +1,9 @@
 -- Ports at work: why the laws ask of a DataCloneError whether something that can't be cloned was given to a stream at the end of a port, and how it comes
--- there: by a call, by a pipe as a chunk, and by a pipe as the reason of a cancel.
+-- there: by a call, by a pipe as a chunk and as the reason of a cancel, and by a tee.
 use Rattle.std.proofs.Common.{◌≡◌, Bool, true, false, List, [], ◌∷◌, ◌++◌, refl, None, Some}
 use Rattle.ws_value.specs.declared.ids.{LockId.{LockId}, PortId.{PortId}}
 use Rattle.ws_value.specs.declared.value.{Message.TheVariants.{Pull as PullMessage}, Outcome.TheVariants.{Pending, Rejected}, Plain.TheVariants.{Number, Local}, Value.TheVariants.{Plain as PlainValue}}
-use Rattle.ws_steps.specs.declared.calls.Call.TheVariants.{MakeReadable, MakeWritable, GetWriter, Write, Enqueue, Fail, Pipe, Open, Deliver}
+use Rattle.ws_steps.specs.declared.calls.Call.TheVariants.{MakeReadable, MakeWritable, GetWriter, Write, Enqueue, Fail, Pipe, Open, Deliver, Tee, Cancel}
 use Rattle.ws_steps.specs.declared.calls.StartBy.TheVariants.{Now}
 use Rattle.ws_steps.specs.declared.pipes.Prevent.{Prevent}
 use Rattle.ws_steps.specs.declared.port.Side.TheVariants.{Readable as ReadableSide, Writable as WritableSide}
@@ -14,14 +14,16 @@ use Rattle.ws_steps.specs.Promises.{outcome_at, fresh, settle, answer, react, fo
 use Rattle.ws_steps.specs.Readable as readable
 use Rattle.ws_steps.specs.Writable as writable
 use Rattle.ws_steps.specs.Pipes as pipe
+use Rattle.ws_steps.specs.Tee as tee
 use Rattle.ws_steps.specs.Turns.{call_host, row, turns, performed, moments_of, moments}
 use Rattle.ws_steps.specs.Jobs.{begin_job}
 use Rattle.ws_steps.specs.Calls.{begin}
 use Rattle.ws_steps.specs.Run.{Entry, Called, run, jobs_in_a_row}
-use Rattle.ws_steps.specs.Slots.{empty, writable_at}
+use Rattle.ws_steps.specs.Slots.{empty, writable_at, tee_at}
 use Rattle.ws_reason_laws.specs.Origins.{origins}
 use Rattle.ws_reason_laws.specs.Uncloned.{run_uncloned}
 use Rattle.ws_reason_laws.proofs.FirstPipe.{s0, s1}
+use Rattle.ws_reason_laws.proofs.WorkedThrough.{s2}
 
 abbrev c0 : PortId
 c0 = record { 0 = 0 }
@@ -67,3 +69,11 @@ cancelling =
 cancelled : (outcome_at (run cancelling empty).promises (record { 0 = 5 }) ≡ Some (Rejected data_clone)) × ((run_uncloned cancelling empty ≡ true) × (origins cancelling ≡ Local 5 ∷ data_clone ∷ []))
 unfolding fresh settle answer react follow unfollow use_gift queue_micro after_next_job watch readable.call_pull_if_needed readable.accept readable.controller_enqueue readable.controller_error readable.stream_error readable.controller_close readable.close_if_empty readable.stream_close readable.after_take readable.pull_steps readable.default_reader_read readable.reader_generic_initialize readable.disturb readable.start_settled readable.pull_settled readable.stream_cancel readable.cancel_steps readable.cancel_if_readable readable.reader_release writable.ensure_rejected writable.settle_pending writable.update_backpressure writable.refresh_backpressure writable.reject_close_and_closed writable.finish_erroring writable.start_erroring writable.deal_with_rejection writable.controller_error_if_needed writable.process_write writable.process_close writable.advance_queue writable.hand_on writable.write_settled writable.finish_in_flight_close writable.finish_in_flight_close_with_error writable.close_settled writable.start_settled writable.abort_settled writable.controller_write writable.writer_write writable.controller_close writable.stream_close writable.close_with_error_propagation writable.stream_abort writable.abort_if_writable writable.set_up_writer writable.writer_release pipe.finalize pipe.act_by_signal pipe.act pipe.proceed pipe.shutdown pipe.look pipe.look_ready pipe.go_on pipe.keep_chunk pipe.read_ended pipe.write_chunk pipe.write_ended pipe.action_settled pipe.part_settled pipe.no_parts pipe.abort call_host row turns performed moments_of moments begin_job begin cross.pull cross.leave cross.deliver cross.close cross.write cross.write_goes_on cross.post_chunk cross.unblock
 cancelled = (refl, (refl, refl))
+
+-- a tee cancels a readable end with its pair, which can't be cloned: its cancel promise, with which that of each branch is answered, is rejected with a DataCloneError
+abbrev teeing : List Entry
+teeing = Called (Open ReadableSide) ∷ (jobs_in_a_row 4 ++ Called (Tee s0) ∷ Called (Cancel s1 (Number 5)) ∷ Called (Cancel s2 (Number 7)) ∷ jobs_in_a_row 20)
+
+teed : (outcome_at (run teeing empty).promises (tee_at (record { 0 = 0 }) (run teeing empty)).cancel ≡ Some (Rejected data_clone)) × ((run_uncloned teeing empty ≡ true) × (origins teeing ≡ data_clone ∷ []))
+unfolding fresh settle answer react follow unfollow use_gift queue_micro after_next_job watch readable.call_pull_if_needed readable.accept readable.controller_enqueue readable.controller_error readable.stream_error readable.controller_close readable.close_if_empty readable.stream_close readable.after_take readable.pull_steps readable.default_reader_read readable.reader_generic_initialize readable.disturb readable.start_settled readable.pull_settled readable.stream_cancel readable.cancel_steps readable.cancel_if_readable readable.reader_release writable.ensure_rejected writable.settle_pending writable.update_backpressure writable.refresh_backpressure writable.reject_close_and_closed writable.finish_erroring writable.start_erroring writable.deal_with_rejection writable.controller_error_if_needed writable.process_write writable.process_close writable.advance_queue writable.hand_on writable.write_settled writable.finish_in_flight_close writable.finish_in_flight_close_with_error writable.close_settled writable.start_settled writable.abort_settled writable.controller_write writable.writer_write writable.controller_close writable.stream_close writable.close_with_error_propagation writable.stream_abort writable.abort_if_writable writable.set_up_writer writable.writer_release pipe.finalize pipe.act_by_signal pipe.act pipe.proceed pipe.shutdown pipe.look pipe.look_ready pipe.go_on pipe.keep_chunk pipe.read_ended pipe.write_chunk pipe.write_ended pipe.action_settled pipe.part_settled pipe.no_parts pipe.abort call_host row turns performed moments_of moments begin_job begin cross.pull cross.leave cross.deliver cross.close cross.write cross.write_goes_on cross.post_chunk cross.unblock tee.pull_branch tee.keep_chunk tee.source_closed tee.source_errored tee.hand_chunk tee.handed tee.cancel_branch tee.reader_settled
+teed = (refl, (refl, refl))

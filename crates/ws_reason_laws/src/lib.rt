@@ -14,7 +14,7 @@ ghost use Rattle.ws_reason_laws.specs.Origins.{EachReasonHasAnOrigin, EachStored
 /// pipe's destination was closing or closed as it was made, a TypeError.
 ///
 /// What is given to a stream is a value that is written to it, and the reason with which it is cancelled or aborted: by
-/// a call, by a pipe, or by a tee, whose pair can't be cloned. Each of these is worked out in an example.
+/// a call, by a pipe, or by a tee, whose pair can't be cloned.
 ///
 /// A call brings the reason of a cancel of a readable half, by number or by a reader, through its transform stream;
 /// and a TypeError where it terminates one, where it makes a pipe from a readable half onto a destination that is
