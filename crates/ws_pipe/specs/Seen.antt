@@ -12,12 +12,14 @@ use Rattle.ws_steps.specs.declared.pipes.PipeOperation.{PipeOperation}
 use Rattle.ws_steps.specs.declared.pipes.PipeOperation.TheVariants.{Look, LookReady, KeepChunk, WriteChunk, GoOn, WriteEnded, Abort}
 use Rattle.ws_steps.specs.declared.promises.Step.TheVariants.{PipeReady, PipeWrote}
 use Rattle.ws_steps.specs.declared.readable.ReadRequest.TheVariants.{Pipe as PipeRequest}
+use Rattle.ws_steps.specs.declared.readable.ReadableState.TheVariants.{Readable}
+use Rattle.ws_steps.specs.declared.writable.WritableState.TheVariants.{Writable}
 use Rattle.ws_steps.specs.declared.readable.ReadableOperation.TheVariants.{Cancel, Read}
 use Rattle.ws_steps.specs.declared.writable.WritableOperation.TheVariants.{ClosePropagating, Write}
 use Rattle.ws_steps.specs.Effects.{type_error}
-use Rattle.ws_steps.specs.Pipes.{Slots, Acts, Signal, act_with, causing, reacts, shutdown, unless, read_or_wait}
+use Rattle.ws_steps.specs.Pipes.{Slots, Acts, Signal, act_with, causing, reacts, shutdown, unless, read_or_wait, wait_for_ready, with_slots}
 use Rattle.ws_pipe.specs.declared.direct.PipeLook.{PipeLook}
-use Rattle.ws_pipe.specs.declared.direct.PipeLook.TheVariants.{GoOn as GoesOn, Ready as IsReady, WriteEnded as HasWritten}
+use Rattle.ws_pipe.specs.declared.direct.PipeLook.TheVariants.{Look as Looks, GoOn as GoesOn, Ready as IsReady, WriteEnded as HasWritten}
 use Rattle.ws_pipe.specs.declared.direct.PipeNext.{PipeNext}
 use Rattle.ws_pipe.specs.declared.direct.PipeNext.TheVariants.{Nothing as NothingNext, Read as ReadNext, Wait as WaitNext}
 use Rattle.ws_steps.specs.Writable.{is_closed}
@@ -78,6 +80,28 @@ flow me ends a =
     else if a.slots.reading then a
     else read_or_wait me ends a
 
+-- the same between two ends that go on, where the destination wants a chunk or else has this promise to wait for
+abbrev pub flows : PipeId → Bool → Option PromiseId → Acts → Acts
+flows me wants ready a =
+    if a.slots.reading then a
+    else if wants then causing (OnReadable a.slots.source (Read (PipeRequest me)) ∷ []) (with_slots (record a.slots { reading = true }) a)
+    else if a.slots.waits then a
+    else wait_for_ready me a ready
+
+-- two ends that go on: the source is readable, and the destination is writable and not closing
+abbrev pub open_ends : Plain → Plain → Bool → Option PromiseId → Option PromiseId → Ends
+open_ends source_error dest_error wants ready abort =
+    record {
+      source_state = Readable;
+      source_error = source_error;
+      dest_state = Writable;
+      dest_error = dest_error;
+      dest_closing = false;
+      dest_wants = wants;
+      dest_ready = ready;
+      dest_abort = abort;
+    }
+
 -- the chunk that is held is taken
 abbrev pub taken : Slots → Option Value → Slots
 taken s None = s
@@ -127,6 +151,7 @@ writing me (Some (v, p)) a = causing (OnWritable a.slots.dest (Write v p) ∷ re
 
 -- the operation in which a pipe looks so
 abbrev pub look_of : PipeLook → PipeOperation
+look_of Looks = Look
 look_of GoesOn = GoOn
 look_of IsReady = LookReady
 look_of HasWritten = WriteEnded

@@ -1,13 +1,13 @@
 //! How a pipe reads and writes.
 ghost use Rattle.std.specs.Prelude.{◌≡◌, ◌+◌, ◌-◌, ◌≤◌, ◌^◌, ◌<◌, None, Some, false, length};
 ghost use Rattle.ws_pipe.specs.Seen.{acts_of, taken};
-ghost use Rattle.ws_promise.specs.Seen.{HasEffectRoom, HasJobRoom, HasPromiseRoom, Seen, SeenAgenda};
+ghost use Rattle.ws_promise.specs.Seen.{HasEffectRoom, HasJobRoom, HasPromiseRoom, SeenAgenda};
 ghost use Rattle.ws_steps.specs.Pipes as rows;
 
+use crate::Pipe;
 use crate::pipe::reacts;
-use crate::{Pipe, PipeEnds};
 use ws_promise::{Agenda, Promises};
-use ws_steps::{Effect, Micro, Phase, PipeOperation, Step, WritableOperation};
+use ws_steps::{Effect, Micro, PipeOperation, Step, WritableOperation};
 use ws_value::{PipeId, Value};
 
 impl Pipe {
@@ -43,42 +43,6 @@ impl Pipe {
         self.unsettled += 1;
     }
 
-    #[tactic(auto, using(crate::proofs::Counts::fresh_length))]
-    fn write(&mut self, me: PipeId, p: &mut Promises, fx: &mut Agenda, chunk: Value)
-        requires counted { self.old.unsettled ≤ length p.old.table.entries }
-        requires promise_room { HasPromiseRoom 1 p.old }
-        requires effect_room { HasEffectRoom 3 fx.old }
-        ensures row { acts_of self.new p.new fx.new ≡ rows.write me chunk (acts_of self.old p.old fx.old) }
-        ensures promise_room { p.new.room ≡ p.old.room }
-        ensures effect_room { fx.new.capacity ≡ fx.old.capacity }
-    {
-        let promise = p.fresh();
-        // There are no more writes than promises, whose numbers fit.
-        let next = p.next_id().0;
-        prove!(self.unsettled < next);
-        self.add_write();
-        let write = WritableOperation::Write(chunk, promise);
-        fx.push(Effect::Writable(self.dest, write));
-        fx.push(reacts(promise, Step::PipeWrote(me)));
-        fx.push(Effect::Pipe(me, PipeOperation::GoOn));
-    }
-
-    fn write_in(&mut self, me: PipeId, p: &mut Promises, fx: &mut Agenda, chunk: Value)
-        requires counted { self.old.unsettled ≤ length p.old.table.entries }
-        requires promise_room { HasPromiseRoom 1 p.old }
-        requires effect_room { HasEffectRoom 3 fx.old }
-        ensures row { acts_of self.new p.new fx.new
-            ≡ rows.write_in me chunk (acts_of self.old p.old fx.old) self.old.phase }
-        ensures promise_room { p.new.room ≡ p.old.room }
-        ensures effect_room { fx.new.capacity ≡ fx.old.capacity }
-    {
-        match self.phase {
-            Phase::Flowing => self.write(me, p, fx, chunk),
-            Phase::Waiting => self.write(me, p, fx, chunk),
-            Phase::Acting | Phase::Over => {}
-        }
-    }
-
     /// Takes the chunk that is held. No read is under way then.
     pub(crate) fn take_held(&mut self) -> Option<Value>
         ensures chunk { result ≡ self.old.held }
@@ -99,8 +63,11 @@ impl Pipe {
         ensures promise_room { p.new.room ≡ p.old.room }
         ensures effect_room { fx.new.capacity ≡ fx.old.capacity }
     {
-        if let Some(chunk) = self.take_held() {
-            self.write_in(me, p, fx, chunk);
+        if let Some((chunk, promise)) = self.write_directly(p) {
+            let write = WritableOperation::Write(chunk, promise);
+            fx.push(Effect::Writable(self.dest, write));
+            fx.push(reacts(promise, Step::PipeWrote(me)));
+            fx.push(Effect::Pipe(me, PipeOperation::GoOn));
         }
     }
 
@@ -108,18 +75,5 @@ impl Pipe {
         ensures { self.new ≡ record self.old { unsettled = self.old.unsettled - 1 } }
     {
         self.unsettled = self.unsettled.saturating_sub(1);
-    }
-
-    /// The reaction to the promise of a write.
-    #[tactic(auto, unfolding(ws_steps::specs::Pipes::write_ended))]
-    pub fn write_ended(&mut self, me: PipeId, ends: &PipeEnds, p: &mut Promises, fx: &mut Agenda)
-        requires promise_room { HasPromiseRoom 3 p.old }
-        requires effect_room { HasEffectRoom 5 fx.old }
-        ensures row { acts_of self.new p.new fx.new ≡ rows.write_ended me ends.now (acts_of self.old p.old fx.old) }
-        ensures promise_room { p.new.room ≡ p.old.room }
-        ensures effect_room { fx.new.capacity ≡ fx.old.capacity }
-    {
-        self.remove_write();
-        self.go_on(me, ends, p, fx);
     }
 }

@@ -1,13 +1,12 @@
 //! The way of a chunk, where what the pipe causes is told by the result.
-ghost use Rattle.std.specs.Prelude.{◌≡◌, ◌≤◌, true, length, if◌then◌else◌};
-ghost use Rattle.ws_promise.specs.Seen.{HasEffectRoom, HasPromiseRoom, Seen, SeenAgenda};
-ghost use Rattle.ws_pipe.specs.Seen.{acts_of, going, is_next, look_of, writing};
-ghost use Rattle.ws_steps.specs.Operations.{pipe_operation};
+ghost use Rattle.std.specs.Prelude.{◌≡◌, ◌≤◌, length};
+ghost use Rattle.ws_promise.specs.Seen.{HasPromiseRoom, SeenAgenda};
+ghost use Rattle.ws_pipe.specs.Seen.{acts_of, writing};
 ghost use Rattle.ws_steps.specs.Pipes as rows;
 
-use crate::{Pipe, PipeEnds};
-use ws_promise::{Agenda, Promises};
-use ws_steps::{Phase, ReadableState, WritableState};
+use crate::Pipe;
+use ws_promise::Promises;
+use ws_steps::Phase;
 use ws_value::{PipeId, PromiseId, StreamId, Value};
 
 /// What a pipe does next that flows.
@@ -23,6 +22,8 @@ pub enum PipeNext {
 /// Why a pipe looks at its two ends.
 #[derive(Clone, Copy)]
 pub enum PipeLook {
+    /// It begins, or its read has ended.
+    Look,
     /// It goes on.
     GoOn,
     /// Its writer is ready.
@@ -54,116 +55,6 @@ impl Pipe {
                 Some((chunk, promise))
             }
             Phase::Acting | Phase::Over => None,
-        }
-    }
-
-    /// What it does next where its source is readable and its destination takes chunks.
-    #[inline(always)]
-    fn flows(&mut self, ends: &PipeEnds) -> PipeNext
-        ensures row { (me : PipeId) (p : Seen) (fx : SeenAgenda)
-            → (if self.old.reading then acts_of self.old p fx else rows.read_or_wait me ends.now (acts_of self.old p fx))
-            ≡ going me result (acts_of self.new p fx) }
-    {
-        if self.reading {
-            return PipeNext::Nothing;
-        }
-        if ends.dest_wants {
-            self.reading = true;
-            return PipeNext::Read(self.source);
-        }
-        if self.waits || ends.dest_state != WritableState::Writable {
-            return PipeNext::Nothing;
-        }
-        match ends.dest_ready {
-            Some(ready) => {
-                self.waits = true;
-                PipeNext::Wait(ready)
-            }
-            None => PipeNext::Nothing,
-        }
-    }
-
-    /// Looks at the two ends, where the pipe is flowing: what it does next. What else there is to do is caused.
-    #[inline(always)]
-    #[tactic(auto, unfolding(ws_steps::specs::Pipes::look))]
-    fn looks(&mut self, me: PipeId, ends: &PipeEnds, p: &mut Promises, fx: &mut Agenda) -> PipeNext
-        requires promise_room { HasPromiseRoom 3 p.old }
-        requires effect_room { HasEffectRoom 5 fx.old }
-        ensures row { rows.look me ends.now (acts_of self.old p.old fx.old)
-            ≡ going me result (acts_of self.new p.new fx.new) }
-        ensures quiet { is_next result ≡ true → fx.new ≡ fx.old }
-        ensures promise_room { p.new.room ≡ p.old.room }
-        ensures effect_room { fx.new.capacity ≡ fx.old.capacity }
-    {
-        if self.is_flowing()
-            && ends.source_state == ReadableState::Readable
-            && ends.dest_state == WritableState::Writable
-            && !ends.dest_closing
-        {
-            return self.flows(ends);
-        }
-        self.look(me, ends, p, fx);
-        PipeNext::Nothing
-    }
-
-    /// Looks where the pipe is flowing, and proceeds where it waits.
-    #[inline(always)]
-    #[tactic(auto, unfolding(ws_steps::specs::Pipes::go_on))]
-    fn go_on_directly(
-        &mut self,
-        me: PipeId,
-        ends: &PipeEnds,
-        p: &mut Promises,
-        fx: &mut Agenda,
-    ) -> PipeNext
-        requires promise_room { HasPromiseRoom 3 p.old }
-        requires effect_room { HasEffectRoom 5 fx.old }
-        ensures row { rows.go_on me ends.now (acts_of self.old p.old fx.old)
-            ≡ going me result (acts_of self.new p.new fx.new) }
-        ensures quiet { is_next result ≡ true → fx.new ≡ fx.old }
-        ensures promise_room { p.new.room ≡ p.old.room }
-        ensures effect_room { fx.new.capacity ≡ fx.old.capacity }
-    {
-        match self.phase {
-            Phase::Flowing => self.looks(me, ends, p, fx),
-            Phase::Waiting => {
-                self.proceed(me, ends, p, fx);
-                PipeNext::Nothing
-            }
-            Phase::Acting | Phase::Over => PipeNext::Nothing,
-        }
-    }
-
-    /// Performs an operation in which the pipe looks at its two ends: what it does next. What else there is to do is
-    /// caused.
-    #[inline(always)]
-    #[tactic(auto, unfolding(ws_steps::specs::Pipes::write_ended, ws_steps::specs::Pipes::look_ready))]
-    pub fn look_directly(
-        &mut self,
-        me: PipeId,
-        ends: &PipeEnds,
-        p: &mut Promises,
-        fx: &mut Agenda,
-        look: PipeLook,
-    ) -> PipeNext
-        requires promise_room { HasPromiseRoom 3 p.old }
-        requires effect_room { HasEffectRoom 5 fx.old }
-        ensures row { pipe_operation me ends.now (look_of look) (acts_of self.old p.old fx.old)
-            ≡ going me result (acts_of self.new p.new fx.new) }
-        ensures quiet { is_next result ≡ true → fx.new ≡ fx.old }
-        ensures promise_room { p.new.room ≡ p.old.room }
-        ensures effect_room { fx.new.capacity ≡ fx.old.capacity }
-    {
-        match look {
-            PipeLook::GoOn => self.go_on_directly(me, ends, p, fx),
-            PipeLook::Ready => {
-                self.wait_no_longer();
-                self.looks(me, ends, p, fx)
-            }
-            PipeLook::WriteEnded => {
-                self.remove_write();
-                self.go_on_directly(me, ends, p, fx)
-            }
         }
     }
 }

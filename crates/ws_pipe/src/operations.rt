@@ -1,14 +1,16 @@
 //! The operations of a pipe by their names.
 ghost use Rattle.std.specs.Prelude.{◌≡◌, ◌≤◌, false, length, true};
-ghost use Rattle.ws_pipe.specs.Seen.{HasRoomFor, acts_of, is_common, looks};
-ghost use Rattle.ws_promise.specs.Seen.{HasEffectRoom};
+ghost use Rattle.ws_pipe.specs.Seen.{HasRoomFor, acts_of, going, is_common, is_next, look_of, looks};
+ghost use Rattle.ws_promise.specs.Seen.{HasEffectRoom, HasPromiseRoom, Seen};
 ghost use Rattle.ws_steps.specs.Operations.{pipe_operation};
 ghost use Rattle.ws_steps.specs.declared.pipes.Ends.{Ends};
 ghost use Rattle.ws_steps.specs.declared.pipes.PipeOperation.TheVariants as operations;
 
+use crate::direct::{PipeLook, PipeNext};
+use crate::pipe::reacts;
 use crate::{Pipe, PipeEnds};
 use ws_promise::{Agenda, Promises, taken};
-use ws_steps::PipeOperation;
+use ws_steps::{Effect, PipeOperation, ReadRequest, ReadableOperation, Step};
 use ws_value::{PipeId, Plain};
 
 /// Whether a pipe looks at its two ends in this operation.
@@ -32,6 +34,45 @@ pub fn looks_at_ends(operation: &PipeOperation) -> bool
 }
 
 impl Pipe {
+    /// Causes what the pipe does next.
+    fn cause(&self, me: PipeId, next: PipeNext, fx: &mut Agenda)
+        requires { is_next next ≡ true → HasEffectRoom 1 fx.old }
+        ensures row { (p : Seen) → acts_of self.now p fx.new ≡ going me next (acts_of self.now p fx.old) }
+        ensures effect_room { fx.new.capacity ≡ fx.old.capacity }
+    {
+        match next {
+            PipeNext::Nothing => {}
+            PipeNext::Read(source) => {
+                let read = ReadableOperation::Read(ReadRequest::Pipe(me));
+                fx.push(Effect::Readable(source, read));
+            }
+            PipeNext::Wait(ready) => fx.push(reacts(ready, Step::PipeReady(me))),
+        }
+    }
+
+    /// Looks at the two ends, and causes what the pipe does next.
+    #[inline(never)]
+    fn perform_look(
+        &mut self,
+        me: PipeId,
+        ends: &PipeEnds,
+        p: &mut Promises,
+        fx: &mut Agenda,
+        look: PipeLook,
+    )
+        requires promise_room { HasPromiseRoom 3 p.old }
+        requires counted { self.old.unsettled ≤ length p.old.table.entries }
+        requires effect_room { HasEffectRoom 5 fx.old }
+        ensures row { acts_of self.new p.new fx.new
+            ≡ pipe_operation me ends.now (look_of look) (acts_of self.old p.old fx.old) }
+        ensures counted { self.new.unsettled ≤ length p.new.table.entries }
+        ensures promise_room { p.new.room ≡ p.old.room }
+        ensures effect_room { fx.new.capacity ≡ fx.old.capacity }
+    {
+        let next = self.look_directly(me, ends, p, fx, look);
+        self.cause(me, next, fx);
+    }
+
     /// Performs an operation in which the pipe, whose number is `me`, looks at its two ends. No more writes are
     /// unsettled than there are promises.
     pub fn perform_with_ends(
@@ -53,10 +94,10 @@ impl Pipe {
         ensures effect_room { fx.new.capacity ≡ fx.old.capacity }
     {
         match operation {
-            PipeOperation::Look => self.look(me, ends, p, fx),
-            PipeOperation::LookReady => self.look_ready(me, ends, p, fx),
-            PipeOperation::GoOn => self.go_on(me, ends, p, fx),
-            PipeOperation::WriteEnded => self.write_ended(me, ends, p, fx),
+            PipeOperation::Look => self.perform_look(me, ends, p, fx, PipeLook::Look),
+            PipeOperation::LookReady => self.perform_look(me, ends, p, fx, PipeLook::Ready),
+            PipeOperation::GoOn => self.perform_look(me, ends, p, fx, PipeLook::GoOn),
+            PipeOperation::WriteEnded => self.perform_look(me, ends, p, fx, PipeLook::WriteEnded),
             PipeOperation::Abort(reason) => self.perform_abort(me, ends, p, fx, reason),
             _ => unreachable!(),
         }

@@ -98,7 +98,7 @@ impl Pipe {
         self.dest
     }
 
-    pub(crate) fn is_flowing(&self) -> bool
+    pub fn is_flowing(&self) -> bool
         ensures { result ≡ rows.is_flowing self.now.phase }
     {
         self.phase == Phase::Flowing

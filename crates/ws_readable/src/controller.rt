@@ -54,27 +54,8 @@ impl Readable {
         ensures effect_room { fx.new.capacity ≡ fx.old.capacity }
         ensures caused { length fx.new.effects ≤ 1 + length fx.old.effects }
     {
-        if self.should_call_pull() {
-            self.call_pull(me, fx);
-        }
-    }
-
-    /// Hands a chunk to the first read request that waits, or else puts it at the end of the queue.
-    #[tactic(auto, unfolding(ws_steps::specs::Readable::accept))]
-    fn accept(&mut self, me: StreamId, fx: &mut Agenda, chunk: Value)
-        requires queue { HasQueueRoom 1 self.old }
-        requires effects { HasEffectRoom 1 fx.old }
-        ensures row { (p : Seen) → acts_of self.new p fx.new ≡ rows.accept me chunk (acts_of self.old p fx.old) }
-        ensures room { self.new.room ≡ self.old.room }
-        ensures effect_room { fx.new.capacity ≡ fx.old.capacity }
-        ensures caused { length fx.new.effects ≤ 1 + length fx.old.effects }
-    {
-        match self.take_request() {
-            Some(request) => fx.push(Effect::ChunkSteps(me, request, chunk)),
-            None => {
-                let size = self.size_by.size_of(&chunk);
-                self.queue.push(chunk, size);
-            }
+        if self.pulls() {
+            fx.push(Effect::PullAlgorithm(me));
         }
     }
 
@@ -91,8 +72,13 @@ impl Readable {
         if !self.can_close_or_enqueue() {
             return;
         }
-        self.accept(me, fx, chunk);
-        self.call_pull_if_needed(me, fx);
+        let (waiting, pulls) = self.enqueue_directly(chunk);
+        if let Some((request, chunk)) = waiting {
+            fx.push(Effect::ChunkSteps(me, request, chunk));
+        }
+        if pulls {
+            fx.push(Effect::PullAlgorithm(me));
+        }
     }
 
     #[tactic(auto, unfolding(ws_steps::specs::Readable::close_if_empty))]
@@ -232,10 +218,8 @@ impl Readable {
     {
         match outcome {
             Ok(_) => {
-                self.pulling = false;
-                if self.pull_again {
-                    self.pull_again = false;
-                    self.call_pull_if_needed(me, fx);
+                if self.pull_done() {
+                    fx.push(Effect::PullAlgorithm(me));
                 }
             }
             Err(e) => self.controller_error(me, p, fx, e),

@@ -13,7 +13,7 @@ impl Readable {
     /// ReadableStreamDefaultControllerCallPullIfNeeded: whether the pull algorithm is to be performed.
     #[inline(always)]
     #[tactic(auto, unfolding(ws_steps::specs::Readable::call_pull_if_needed))]
-    fn pulls(&mut self) -> bool
+    pub(crate) fn pulls(&mut self) -> bool
         ensures row { (me : StreamId) (p : Seen) (fx : SeenAgenda) → rows.call_pull_if_needed me (acts_of self.old p fx)
             ≡ pulling_where result me (acts_of self.new p fx) }
         ensures room { self.new.room ≡ self.old.room }

@@ -31,18 +31,6 @@ fn taken_by(me: StreamId, chunk: Value, taker: Taker) -> Effect
 }
 
 impl Writable {
-    /// WritableStreamDefaultControllerProcessWrite.
-    #[tactic(auto, unfolding(ws_steps::specs::Writable::process_write))]
-    pub fn process_write(&mut self, me: StreamId, fx: &mut Agenda)
-        requires effect_room { HasEffectRoom 1 fx.old }
-        ensures row { (p : Seen) → acts_of self.new p fx.new ≡ rows.process_write me (acts_of self.old p fx.old) }
-        ensures room { self.new.room ≡ self.old.room }
-        ensures effect_room { fx.new.capacity ≡ fx.old.capacity }
-    {
-        self.write_in_flight = self.write_requests.pop_front();
-        fx.push(Effect::WriteAlgorithm(me));
-    }
-
     /// WritableStreamDefaultControllerProcessClose.
     #[tactic(auto, unfolding(ws_steps::specs::Writable::process_close))]
     pub fn process_close(&mut self, me: StreamId, fx: &mut Agenda)
@@ -54,21 +42,6 @@ impl Writable {
         self.close_in_flight = self.close_request.take();
         self.queue.pop();
         fx.push(Effect::CloseAlgorithm(me));
-    }
-
-    fn process_first(&mut self, me: StreamId, fx: &mut Agenda)
-        requires effect_room { HasEffectRoom 1 fx.old }
-        ensures row { (p : Seen) → acts_of self.new p fx.new
-            ≡ rows.process_first me (acts_of self.old p fx.old) (first_value self.old.slots.queue) }
-        ensures room { self.new.room ≡ self.old.room }
-        ensures effect_room { fx.new.capacity ≡ fx.old.capacity }
-    {
-        match self.queue.first() {
-            None => {}
-            Some(WriteRecord::CloseMark) => self.process_close(me, fx),
-            Some(WriteRecord::Chunk(_)) => self.process_write(me, fx),
-            Some(WriteRecord::InFlight) => {}
-        }
     }
 
     pub(crate) fn is_chunk_first(&self) -> bool
@@ -97,10 +70,7 @@ impl Writable {
         ensures room { self.new.room ≡ self.old.room }
         ensures effect_room { fx.new.capacity ≡ fx.old.capacity }
     {
-        if !self.is_chunk_first() {
-            return;
-        }
-        if let Some(WriteRecord::Chunk(chunk)) = self.queue.take_first(WriteRecord::InFlight) {
+        if let Some(chunk) = self.take_chunk() {
             fx.push(taken_by(me, chunk, taker));
         }
     }
@@ -114,12 +84,8 @@ impl Writable {
         ensures promise_room { p.new.room ≡ p.old.room }
         ensures effect_room { fx.new.capacity ≡ fx.old.capacity }
     {
-        if self.started && self.write_in_flight.is_none() {
-            if self.is_erroring() {
-                self.finish_erroring(me, p, fx);
-            } else {
-                self.process_first(me, fx);
-            }
+        if self.writes(me, p, fx) {
+            fx.push(Effect::WriteAlgorithm(me));
         }
     }
 

@@ -16,7 +16,7 @@ impl Writable {
     /// there is to do is done, or caused.
     #[inline(always)]
     #[tactic(auto, unfolding(ws_steps::specs::Writable::advance_queue, ws_steps::specs::Writable::process_write))]
-    fn writes(&mut self, me: StreamId, p: &mut Promises, fx: &mut Agenda) -> bool
+    pub(crate) fn writes(&mut self, me: StreamId, p: &mut Promises, fx: &mut Agenda) -> bool
         requires effect_room { HasEffectRoom 1 fx.old }
         ensures row { rows.advance_queue me (acts_of self.old p.old fx.old)
             ≡ writing_where result me (acts_of self.new p.new fx.new) }
@@ -25,16 +25,24 @@ impl Writable {
         ensures promise_room { p.new.room ≡ p.old.room }
         ensures effect_room { fx.new.capacity ≡ fx.old.capacity }
     {
-        if self.started
-            && self.write_in_flight.is_none()
-            && !self.is_erroring()
-            && self.is_chunk_first()
-        {
-            self.write_in_flight = self.write_requests.pop_front();
-            return true;
+        if !self.started || self.write_in_flight.is_some() {
+            return false;
         }
-        self.advance_queue(me, p, fx);
-        false
+        if self.is_erroring() {
+            self.finish_erroring(me, p, fx);
+            return false;
+        }
+        match self.queue.first() {
+            Some(WriteRecord::Chunk(_)) => {
+                self.write_in_flight = self.write_requests.pop_front();
+                true
+            }
+            Some(WriteRecord::CloseMark) => {
+                self.process_close(me, fx);
+                false
+            }
+            Some(WriteRecord::InFlight) | None => false,
+        }
     }
 
     /// The controller's reaction to its write algorithm, where that succeeded: whether it is to be performed again.
@@ -59,7 +67,7 @@ impl Writable {
     /// WritableStreamDefaultControllerWrite: whether the write algorithm is to be performed.
     #[inline(always)]
     #[tactic(auto, unfolding(ws_steps::specs::Writable::controller_write))]
-    fn controller_write_directly(
+    fn controller_write(
         &mut self,
         me: StreamId,
         p: &mut Promises,
@@ -111,7 +119,7 @@ impl Writable {
             }
             None => {
                 self.add_write_request(promise);
-                self.controller_write_directly(me, p, fx, chunk)
+                self.controller_write(me, p, fx, chunk)
             }
         }
     }

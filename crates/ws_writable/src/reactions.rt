@@ -7,7 +7,7 @@ ghost use Rattle.ws_writable.specs.Seen.{acts_of};
 use crate::Writable;
 use crate::requests::settle_request;
 use ws_promise::{Agenda, Promises};
-use ws_steps::WritableState;
+use ws_steps::{Effect, WritableState};
 use ws_value::{Plain, PromiseId, StreamId};
 
 impl Writable {
@@ -72,10 +72,9 @@ impl Writable {
     {
         match outcome {
             Ok(_) => {
-                self.write_ended(p, Ok(Plain::Undefined));
-                self.drop_first();
-                self.refresh_backpressure(p);
-                self.advance_queue(me, p, fx);
+                if self.write_done(me, p, fx) {
+                    fx.push(Effect::WriteAlgorithm(me));
+                }
             }
             Err(e) => {
                 self.write_ended(p, Err(e));

@@ -8,7 +8,7 @@ use crate::Writable;
 use crate::requests::settle_pending;
 use crate::stream::TYPE_ERROR;
 use ws_promise::{Agenda, Promises};
-use ws_steps::{WritableState, WriteRecord, Writer};
+use ws_steps::{Effect, WritableState, WriteRecord, Writer};
 use ws_value::{Plain, PromiseId, StreamId, Value};
 
 impl Writable {
@@ -90,28 +90,6 @@ impl Writable {
         self.queue.push(WriteRecord::Chunk(chunk), size);
     }
 
-    /// WritableStreamDefaultControllerWrite.
-    #[tactic(auto, unfolding(ws_steps::specs::Writable::controller_write))]
-    pub fn controller_write(
-        &mut self,
-        me: StreamId,
-        p: &mut Promises,
-        fx: &mut Agenda,
-        chunk: Value,
-    )
-        requires queue_room { HasQueueRoom 1 self.old }
-        requires promise_room { HasPromiseRoom 1 p.old }
-        requires effect_room { HasEffectRoom 1 fx.old }
-        ensures row { acts_of self.new p.new fx.new ≡ rows.controller_write me chunk (acts_of self.old p.old fx.old) }
-        ensures room { self.new.room ≡ self.old.room }
-        ensures promise_room { p.new.room ≡ p.old.room }
-        ensures effect_room { fx.new.capacity ≡ fx.old.capacity }
-    {
-        self.enqueue_chunk(chunk);
-        self.refresh_backpressure(p);
-        self.advance_queue(me, p, fx);
-    }
-
     /// WritableStreamDefaultWriterWrite, where the writer has the stream, with the promise that it answers.
     #[tactic(auto, unfolding(ws_steps::specs::Writable::writer_write))]
     pub fn writer_write(
@@ -132,12 +110,8 @@ impl Writable {
         ensures promise_room { p.new.room ≡ p.old.room }
         ensures effect_room { fx.new.capacity ≡ fx.old.capacity }
     {
-        match self.write_refusal() {
-            Some(e) => p.reject(promise, e),
-            None => {
-                self.add_write_request(promise);
-                self.controller_write(me, p, fx, chunk);
-            }
+        if self.write_directly(me, p, fx, chunk, promise) {
+            fx.push(Effect::WriteAlgorithm(me));
         }
     }
 

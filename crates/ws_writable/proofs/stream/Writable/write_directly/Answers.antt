@@ -6,4 +6,4 @@ pub returns-in-None-clause-row : goal.returns-in-None-clause-row
 unfolding writer_write
 returns-in-None-clause-row c =
     rw (sym c.write_refusal.ensures ∙ c.in-None.is)
-    (ap (controller_write c.args.me c.args.chunk) (sym (c.add_write_request.ensures.row c.args.p.now c.args.fx.now)) ∙ c.controller_write_directly.ensures.row)
+    (ap (controller_write c.args.me c.args.chunk) (sym (c.add_write_request.ensures.row c.args.p.now c.args.fx.now)) ∙ c.controller_write.ensures.row)
