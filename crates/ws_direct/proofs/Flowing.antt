@@ -1,13 +1,14 @@
 -- An operation of a pipe is performed, and what it causes is told.
-use Rattle.std.proofs.Common.{◌≡◌, ◌≤◌, ◌∙◌, true, List, [], ◌∷◌, length, map, Option, None, Some, refl, sym, ap, subst, arith}
+use Rattle.std.proofs.Common.{◌≡◌, ◌≤◌, ◌∙◌, Bool, true, List, [], ◌∷◌, length, map, Option, None, Some, refl, sym, ap, subst, arith}
 use Rattle.std.specs.Prelude.{slice_get, slice_set, vec_len}
 use Rattle.ws_value.specs.declared.ids.PipeId.{PipeId}
 use Rattle.ws_value.specs.declared.ids.PromiseId.{PromiseId}
 use Rattle.ws_value.specs.declared.ids.StreamId.{StreamId}
+use Rattle.ws_value.specs.declared.value.Plain.{Plain}
 use Rattle.ws_value.specs.declared.value.Value.{Value}
 use Rattle.ws_promise.specs.Seen.{Seen, SeenAgenda}
 use Rattle.ws_pipe.proofs.Counts.{counted_by}
-use Rattle.ws_pipe.specs.Seen.{going, is_next, look_of, writing}
+use Rattle.ws_pipe.specs.Seen.{acts_of, going, is_next, look_of, open_ends, writing}
 use Rattle.ws_pipe.specs.declared.direct.PipeLook.{PipeLook}
 use Rattle.ws_pipe.specs.declared.direct.PipeNext.{PipeNext}
 use Rattle.ws_pipe.specs.declared.direct.PipeNext.TheVariants.{Nothing, Read as ReadNext, Wait as WaitNext}
@@ -33,7 +34,7 @@ use Rattle.ws_tables.specs.declared.tables.Tables.{Tables}
 use Rattle.ws_tables.proofs.Counts.{row-more, row-few, row-sourced, counted-put}
 use Rattle.ws_effects.specs.Performing.{Performs}
 use Rattle.ws_effects.proofs.Records.{PipeTook, pipe-row, pipe-took}
-use Rattle.ws_direct.specs.Directly.{Reaches}
+use Rattle.ws_direct.specs.Directly.{AreOpen, Reaches, looks_told}
 use Rattle.ws_direct.proofs.Reaching.{causing, by}
 
 -- a pipe was put in its place: y is the record afterwards, and seen are the promises
@@ -122,11 +123,6 @@ look-own look = grind arith
 pub look-room : (look : PipeLook) → 3 ≤ own_pipe promises_alone (look_of look)
 look-room look = let h = look-own look in omega (arith, h)
 
-abbrev looks_told : PipeId → List Effect → PipeNext → List Effect
-looks_told p es Nothing = es
-looks_told p es (ReadNext source) = Readable source (Read (PipeRequest p)) ∷ []
-looks_told p es (WaitNext ready) = pipe.reacts ready (PipeReady p) ∷ []
-
 look-told : (p : PipeId) (next : PipeNext) (s : pipe.Slots) (t : Table) (es : List Effect) → (is_next next ≡ true → es ≡ [])
     → record { slots = s; out = record { promises = t; effects = looks_told p es next } } ≡ going p next (record { slots = s; out = record { promises = t; effects = es } })
 look-told p Nothing s t es quiet = refl
@@ -147,6 +143,19 @@ look-on p operation old z x y seen fx ends next at here quiet acted same room pu
     ∙ ap (λ (e : Ends). pipe_operation p e operation a) here)) in
     pipe-on p operation old z x y seen (looks_told p fx.effects next) at did room
     (counted_by p (ends_at x (slots_of old)) operation a (record { slots = y; out = record { promises = seen.table; effects = looks_told p fx.effects next } }) did (kept.counted p.0 x at)) put kept
+
+opened : (ends : Ends) (wants : Bool) (ready : Option PromiseId) → AreOpen wants ready ends → open_ends ends.source_error ends.dest_error wants ready ends.dest_abort ≡ ends
+opened ends wants ready are = rw (← are.source, ← are.dest, ← are.closing, ← are.wanting, ← are.readied) refl
+
+-- a pipe looks at its two ends, which go on
+pub look-open : (p : PipeId) (look : PipeLook) (old z : Tables) (x y : pipe.Slots) (wants : Bool) (ready : Option PromiseId) (next : PipeNext) → slice_get old.pipes.items p.0 ≡ Some x
+    → AreOpen wants ready (ends_at x (slots_of old)) → old.caused.effects ≡ []
+    → ((me : PipeId) (source_error dest_error : Plain) (abort : Option PromiseId) (seen : Seen) (fx : SeenAgenda) → pipe_operation me (open_ends source_error dest_error wants ready abort) (look_of look) (acts_of x seen fx) ≡ going me next (acts_of y seen fx))
+    → PutPipe p old z y old.promises → IsKept old → Reaches (Pipe p (look_of look) ∷ []) old (looks_told p old.caused.effects next) z
+look-open p look old z x y wants ready next at are quiet acts put kept =
+    let ends = ends_at x (slots_of old) in
+    look-on p (look_of look) old z x y old.promises old.caused (open_ends ends.source_error ends.dest_error wants ready ends.dest_abort) next at (opened ends wants ready are) quiet
+    (acts p ends.source_error ends.dest_error ends.dest_abort old.promises old.caused) (λ yes. refl) refl put kept
 
 -- a pipe writes the chunk that it holds
 

@@ -1,15 +1,25 @@
 -- An effect is performed at once, with what comes of it, and what doesn't go its usual way is caused.
 use Rattle.std.specs.Prelude.{ℕ, ◌≡◌, Bool, true, false, List, [], ◌∷◌, ◌++◌, Option, Some, None}
+use Rattle.ws_pipe.specs.declared.direct.PipeNext.{PipeNext}
+use Rattle.ws_pipe.specs.declared.direct.PipeNext.TheVariants.{Nothing, Read as ReadNext, Wait as WaitNext}
+use Rattle.ws_value.specs.declared.ids.PipeId.{PipeId}
 use Rattle.ws_value.specs.declared.ids.PromiseId.{PromiseId}
 use Rattle.ws_value.specs.declared.ids.StreamId.{StreamId}
 use Rattle.ws_value.specs.declared.value.Value.{Value}
 use Rattle.ws_steps.specs.declared.effects.Effect.{Effect}
-use Rattle.ws_steps.specs.declared.effects.Effect.TheVariants.{ChunkSteps, PullAlgorithm, Writable}
+use Rattle.ws_steps.specs.declared.effects.Effect.TheVariants.{ChunkSteps, PullAlgorithm, Readable, Writable}
+use Rattle.ws_steps.specs.declared.pipes.Ends.{Ends}
+use Rattle.ws_steps.specs.declared.promises.Step.TheVariants.{PipeReady}
 use Rattle.ws_steps.specs.declared.readable.ReadRequest.{ReadRequest}
+use Rattle.ws_steps.specs.declared.readable.ReadRequest.TheVariants.{Pipe as PipeRequest}
+use Rattle.ws_steps.specs.declared.readable.ReadableOperation.TheVariants.{Read}
+use Rattle.ws_steps.specs.declared.readable.ReadableState.TheVariants.{Readable as IsReadable}
 use Rattle.ws_steps.specs.declared.transform.Taker.{Taker}
 use Rattle.ws_steps.specs.declared.transform.Taker.TheVariants.{ToTransform}
 use Rattle.ws_steps.specs.declared.transform.TransformId.{TransformId}
 use Rattle.ws_steps.specs.declared.writable.WritableOperation.TheVariants.{HandOn}
+use Rattle.ws_steps.specs.declared.writable.WritableState.TheVariants.{Writable as IsWritable}
+use Rattle.ws_steps.specs.Pipes.{reacts}
 use Rattle.ws_steps.specs.Slots.{causes}
 use Rattle.ws_steps.specs.Turns.{performed}
 use Rattle.ws_steps.specs.Writable.{taken_by}
@@ -68,3 +78,17 @@ given i request (Some v) = ChunkSteps i request v ∷ []
 abbrev pub accepted : StreamId → Option (ReadRequest × Value) → List Effect
 accepted i None = []
 accepted i (Some (request, v)) = ChunkSteps i request v ∷ []
+
+-- what a pipe does next, which comes alone, and else what it caused
+abbrev pub looks_told : PipeId → List Effect → PipeNext → List Effect
+looks_told p es Nothing = es
+looks_told p es (ReadNext source) = Readable source (Read (PipeRequest p)) ∷ []
+looks_told p es (WaitNext ready) = reacts ready (PipeReady p) ∷ []
+
+-- the ends of a pipe are such that it goes on
+pub record AreOpen (wants : Bool) (ready : Option PromiseId) (ends : Ends) : Type 0 where
+  pub source : ends.source_state ≡ IsReadable
+  pub dest : ends.dest_state ≡ IsWritable
+  pub closing : ends.dest_closing ≡ false
+  pub wanting : ends.dest_wants ≡ wants
+  pub readied : ends.dest_ready ≡ ready

@@ -186,6 +186,7 @@ impl Realm {
 
     /// Performs the first job with all that it causes. False says that no job is queued, and then no memory is taken.
     /// A refusal changes nothing.
+    #[inline(always)]
     pub fn job(&mut self) -> Result<bool, Why>
         ensures worked { IfOk result (λ worked. worked ≡ not (run.is_idle self.old.slots)) }
         ensures slots { OnOk result (self.new.slots
