@@ -1,15 +1,31 @@
 -- What two calls after each other did to a source or a sink.
-use Rattle.std.proofs.Common.{◌≡◌, ℕ, Bool, List, [], ◌∷◌, ◌++◌, refl, sym, ◌∙◌, subst, append_assoc, append-nil}
+use Rattle.std.proofs.Common.{◌≡◌, inl, inr, arith, ℕ, Bool, List, [], ◌∷◌, ◌++◌, refl, sym, ◌∙◌, subst, ap, append_assoc, append-nil}
 use Rattle.std.specs.Prelude.{Option, Some, None}
+use Rattle.ws_io.specs.Faults.{IsLater, Rose}
 use Rattle.ws_io.specs.Feed.{Feed, Fed, IsEmpty}
-use Rattle.ws_io.specs.Gain.{Gains, KeepsTold, Becomes}
+use Rattle.ws_io.specs.Gain.{Gains, Got, IsEmptied, KeepsTold, Becomes, straight}
 
-pub Gains-nothing : (p : List ℕ → Type 0) → Gains p p []
-Gains-nothing p = record { grows = λ xs h. subst p (sym (append-nil xs)) h }
+pub Gains-nothing : (p : Got) → Gains p p []
+Gains-nothing p =
+    record { went = []; grows = λ xs h. subst p.out (sym (append-nil xs)) h; behind = append-nil p.held }
 
-pub Gains-then : (p q r : List ℕ → Type 0) (xs ys : List ℕ) → Gains p q xs → Gains q r ys → Gains p r (xs ++ ys)
+pub Gains-then : (p q r : Got) (xs ys : List ℕ) → Gains p q xs → Gains q r ys → Gains p r (xs ++ ys)
 Gains-then p q r xs ys a b =
-    record { grows = λ zs h. subst r (append_assoc zs xs ys) (b.grows (zs ++ xs) (a.grows zs h)) }
+    record {
+      went = a.went ++ b.went;
+      grows = λ zs h. subst r.out (append_assoc zs a.went b.went) (b.grows (zs ++ a.went) (a.grows zs h));
+      behind =
+          sym (append_assoc p.held xs ys) ∙ ap (λ (zs : List ℕ). zs ++ ys) a.behind ∙ append_assoc a.went q.held ys
+          ∙ ap (λ (zs : List ℕ). a.went ++ zs) b.behind ∙ sym (append_assoc a.went b.went r.held);
+    }
+
+-- nothing more was taken then
+pub Gains-still : (p q r : Got) (xs : List ℕ) → Gains p q xs → Gains q r [] → Gains p r xs
+Gains-still p q r xs a b = subst (λ (ys : List ℕ). Gains p r ys) (append-nil xs) (Gains-then p q r xs [] a b)
+
+-- of a sink that holds nothing back
+pub Gains-straight : (p q : List ℕ → Type 0) (gain : List ℕ) → ((xs : List ℕ) → p xs → q (xs ++ gain)) → Gains (straight p) (straight q) gain
+Gains-straight p q gain h = record { went = gain; grows = h; behind = sym (append-nil gain) }
 
 pub Fed-nothing : (f : Option Feed) → Fed f f []
 Fed-nothing None = tt
@@ -42,6 +58,22 @@ KeepsTold-then (Some a) (Some b) (Some c) p q = q ∙ p
 nil_end : (xs ys : List ℕ) → [] ≡ xs ++ ys → ys ≡ []
 nil_end [] ys e = sym e
 nil_end (x ∷ xs) ys e = cc
+
+-- where nothing was held back, and nothing more was taken, nothing is
+pub IsEmptied-kept : (p q : Got) → Gains p q [] → IsEmptied p → IsEmptied q
+IsEmptied-kept p q g e = nil_end g.went q.held (sym e ∙ (sym (append-nil p.held) ∙ g.behind))
+
+-- a count that rose since a later moment rose since an earlier one
+pub rose-later : (a b c : ℕ) → IsLater a b → Rose b c → Rose a c
+rose-later a b c (inl same) rose = omega arith
+rose-later a b c (inr first) rose = omega arith
+
+-- what is told stays, so it is the same
+pub told-same : (a b : Option Bool) → KeepsTold a b → b ≡ a
+told-same None None k = refl
+told-same None (Some b) k = absurd k
+told-same (Some a) None k = absurd k
+told-same (Some a) (Some b) k = ap Some k
 
 -- a source that has nothing left has nothing left afterwards
 pub IsEmpty-kept : (f g : Option Feed) (xs : List ℕ) → IsEmpty f → Fed f g xs → IsEmpty g

@@ -46,6 +46,11 @@ abbrev pub HasLeft : Option Feed → List ℕ → Type 0
 HasLeft None bytes = ⊥
 HasLeft (Some feed) bytes = feed.left ≡ bytes
 
+-- where the source tells them, at least this many bytes are left
+abbrev pub HasAtLeast : Option Feed → ℕ → Type 0
+HasAtLeast None count = Unit {0}
+HasAtLeast (Some feed) count = count ≤ length feed.left
+
 -- what a read into `room` of this length did, at `Ok count`
 pub record ReadSome (old new : Option Feed) (count : ℕ) (room : List ℕ) : Type 0 where
   pub within : count ≤ length room

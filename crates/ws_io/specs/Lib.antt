@@ -1,8 +1,9 @@
 pub mod Arguments
+pub mod HeldBehind
+pub mod Emptied
 pub mod Faults
 pub mod Feed
 pub mod Gain
-pub mod Held
 pub mod Moment
 pub mod Memory
 pub mod Files

@@ -1,10 +1,10 @@
 //! The outside of a program: traits for its arguments, input, output and files, forms of them in memory and over std,
-//! its output held back and its input read ahead, and the exit statuses.
+//! an output that is held back, and the exit statuses.
 #![tactic(auto)]
 
 mod arguments;
+mod buffered;
 mod files;
-mod held;
 mod mem_files;
 mod mem_sink;
 mod mem_source;
@@ -20,8 +20,8 @@ mod steady_source;
 mod whole;
 
 pub use arguments::{Arguments, ArgumentsRefused};
+pub use buffered::BufferedSink;
 pub use files::{Files, LoadRefused};
-pub use held::{AfterOutput, HeldOutput};
 pub use mem_files::MemFiles;
 pub use mem_sink::MemSink;
 pub use mem_source::MemSource;

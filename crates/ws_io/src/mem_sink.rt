@@ -1,6 +1,6 @@
-ghost use Rattle.std.specs.Prelude.{◌≡◌, ◌<◌, [], false, Some, IfOk, All, length};
+ghost use Rattle.std.specs.Prelude.{◌≡◌, ◌<◌, [], false, Some, IfOk, OnOk, All, length};
 ghost use Rattle.ws_io.specs.Faults.{HasCause};
-ghost use Rattle.ws_io.specs.Gain.{Gains, Writes, Finishes};
+ghost use Rattle.ws_io.specs.Gain.{Gains, IsEmptied, KeepsTold, Writes, Finishes, straight};
 ghost use Rattle.ws_io.specs.Memory.{write_answer, after_write, finish_answer, after_finish};
 
 use crate::numbers::{contains, number_at};
@@ -101,14 +101,14 @@ impl MemSink {
 impl Sink for MemSink {
     ghost faults = { λ s. s.count };
 
-    ghost got = { λ s xs. xs ≡ s.got };
+    ghost got = { λ s. straight (λ xs. xs ≡ s.got) };
 
     ghost finished = { λ s. Some s.finished };
 
     fn write(&mut self, piece: &[u8]) -> Result<usize, Failed>
         ensures answer { result ≡ write_answer self.old (length piece.now) }
         ensures after { self.new ≡ after_write self.old piece.now }
-        ensures bytes { Writes (λ xs. xs ≡ self.old.got) (λ xs. xs ≡ self.new.got) result piece.now }
+        ensures bytes { Writes (straight (λ xs. xs ≡ self.old.got)) (straight (λ xs. xs ≡ self.new.got)) result piece.now }
         ensures cause { HasCause self.old.count self.new.count result }
     {
         let index = self.writes;
@@ -127,11 +127,22 @@ impl Sink for MemSink {
         Ok(count)
     }
 
+    fn flush(&mut self) -> Result<(), Failed>
+        ensures same { self.new ≡ self.old }
+        ensures emptied { OnOk result (IsEmptied (straight (λ xs. xs ≡ self.new.got))) }
+        ensures bytes { Gains (straight (λ xs. xs ≡ self.old.got)) (straight (λ xs. xs ≡ self.new.got)) [] }
+        ensures finished { KeepsTold (Some self.old.finished) (Some self.new.finished) }
+        ensures cause { HasCause self.old.count self.new.count result }
+    {
+        Ok(())
+    }
+
     fn finish(&mut self) -> Result<(), Failed>
         ensures answer { result ≡ finish_answer self.old }
         ensures after { self.new ≡ after_finish self.old }
         ensures finished { Finishes (Some self.old.finished) (Some self.new.finished) result }
-        ensures bytes { Gains (λ xs. xs ≡ self.old.got) (λ xs. xs ≡ self.new.got) [] }
+        ensures emptied { OnOk result (IsEmptied (straight (λ xs. xs ≡ self.new.got))) }
+        ensures bytes { Gains (straight (λ xs. xs ≡ self.old.got)) (straight (λ xs. xs ≡ self.new.got)) [] }
         ensures cause { HasCause self.old.count self.new.count result }
     {
         self.finishes = self.finishes.saturating_add(1);

@@ -1,6 +1,6 @@
 ghost use Rattle.std.specs.Prelude.{◌≡◌, ◌<◌, [], true, false, ◌==◌, ◌&&◌, nat_lt, if◌then◌else◌, Some, IfOk, All, length};
 ghost use Rattle.ws_io.specs.Faults.{HasCause};
-ghost use Rattle.ws_io.specs.Feed.{Reads};
+ghost use Rattle.ws_io.specs.Feed.{HasAtLeast, Reads};
 ghost use Rattle.ws_io.specs.Memory.{answer_of, after_read, room_after};
 
 use crate::numbers::{contains, number_at};
@@ -109,5 +109,12 @@ impl Source for MemSource {
         self.given += count;
         self.ended = end_after(self.ended, count, room.len());
         Ok(count)
+    }
+    /// Each read of it stands for one of the system.
+    fn ready(&self) -> usize
+        ensures none { result ≡ 0 }
+        ensures ready { HasAtLeast (Some self.now.feed) result }
+    {
+        0
     }
 }

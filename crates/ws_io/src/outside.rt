@@ -1,7 +1,7 @@
-ghost use Rattle.std.specs.Prelude.{◌≡◌, List, [], ℕ, Bool, true, Option};
+ghost use Rattle.std.specs.Prelude.{◌≡◌, [], ℕ, Bool, true, OnOk, Option};
 ghost use Rattle.ws_io.specs.Faults.{HasCause};
-ghost use Rattle.ws_io.specs.Feed.{Feed, Reads};
-ghost use Rattle.ws_io.specs.Gain.{Gains, Writes, Finishes, KeepsTold};
+ghost use Rattle.ws_io.specs.Feed.{Feed, HasAtLeast, Reads};
+ghost use Rattle.ws_io.specs.Gain.{Gains, Got, IsEmptied, Writes, Finishes, KeepsTold};
 
 /// A call of the outside failed.
 #[derive(Clone, Copy, PartialEq, Eq)]
@@ -20,15 +20,19 @@ pub trait Source {
     fn read(&mut self, room: &mut [u8]) -> Result<usize, Failed>
         ensures bytes { Reads (feed self.old) (feed self.new) result room.new }
         ensures cause { HasCause (faults self.old) (faults self.new) result };
+
+    /// How many bytes reads can give without asking the system: those that were read ahead.
+    fn ready(&self) -> usize
+        ensures { HasAtLeast (feed self.now) result };
 }
 
-/// What bytes are written to.
+/// What bytes are written to. It may hold them back.
 pub trait Sink {
-    /// How often a write or a finish has failed, which never falls. It may stop at 2^64 - 1.
+    /// How often a write, a flush or a finish has failed, which never falls. It may stop at 2^64 - 1.
     ghost faults: { Self → ℕ };
 
-    /// The lists of bytes for which the sink stands.
-    ghost got: { Self → List ℕ → Type 0 };
+    /// The bytes that went out, and those that are held back.
+    ghost got: { Self → Got };
 
     /// Whether it was finished, or nothing where the sink doesn't tell.
     ghost finished: { Self → Option Bool };
@@ -44,9 +48,18 @@ pub trait Sink {
         ensures begun { begun self.new ≡ begun self.old }
         ensures cause { HasCause (faults self.old) (faults self.new) result };
 
-    /// Says that no more comes.
+    /// Writes all that is held back. At `Failed` what wasn't written is still held.
+    fn flush(&mut self) -> Result<(), Failed>
+        ensures emptied { OnOk result (IsEmptied (got self.new)) }
+        ensures bytes { Gains (got self.old) (got self.new) [] }
+        ensures finished { KeepsTold (finished self.old) (finished self.new) }
+        ensures begun { begun self.new ≡ begun self.old }
+        ensures cause { HasCause (faults self.old) (faults self.new) result };
+
+    /// Writes all that is held back, and says that no more comes.
     fn finish(&mut self) -> Result<(), Failed>
         ensures finished { Finishes (finished self.old) (finished self.new) result }
+        ensures emptied { OnOk result (IsEmptied (got self.new)) }
         ensures bytes { Gains (got self.old) (got self.new) [] }
         ensures begun { begun self.new ≡ begun self.old }
         ensures cause { HasCause (faults self.old) (faults self.new) result };

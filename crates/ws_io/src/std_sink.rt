@@ -1,6 +1,6 @@
-ghost use Rattle.std.specs.Prelude.{◌≡◌, ◌≤◌, ◌<◌, [], None, IfOk, OnErr, length};
+ghost use Rattle.std.specs.Prelude.{◌≡◌, ◌≤◌, ◌<◌, [], None, IfOk, OnOk, OnErr, length};
 ghost use Rattle.ws_io.specs.Faults.{HasCause};
-ghost use Rattle.ws_io.specs.Gain.{Gains, Writes, Finishes, KeepsTold};
+ghost use Rattle.ws_io.specs.Gain.{Gains, IsEmptied, Writes, Finishes, KeepsTold, straight};
 ghost use Rattle.ws_io.specs.Memory.{one_more};
 
 use crate::std_source::REPEATS;
@@ -66,12 +66,12 @@ impl<W: Write + Drop> StdSink<W> {
 impl<W: Write + Drop> Sink for StdSink<W> {
     ghost faults = { λ s. s.count };
 
-    ghost got = { λ s xs. ⊥ };
+    ghost got = { λ s. straight (λ xs. ⊥) };
 
     ghost finished = { λ s. None };
 
     fn write(&mut self, piece: &[u8]) -> Result<usize, Failed>
-        ensures bytes { Writes (λ xs. ⊥) (λ xs. ⊥) result piece.now }
+        ensures bytes { Writes (straight (λ xs. ⊥)) (straight (λ xs. ⊥)) result piece.now }
         ensures finished { KeepsTold None None }
         ensures cause { HasCause self.old.count self.new.count result }
         ensures count { OnErr result (self.new.count ≡ one_more self.old.count) }
@@ -80,9 +80,21 @@ impl<W: Write + Drop> Sink for StdSink<W> {
         self.counted(answer)
     }
 
+    fn flush(&mut self) -> Result<(), Failed>
+        ensures emptied { OnOk result (IsEmptied (straight (λ xs. ⊥))) }
+        ensures bytes { Gains (straight (λ xs. ⊥)) (straight (λ xs. ⊥)) [] }
+        ensures finished { KeepsTold None None }
+        ensures cause { HasCause self.old.count self.new.count result }
+        ensures count { OnErr result (self.new.count ≡ one_more self.old.count) }
+    {
+        let answer = flush_again(&mut self.inner);
+        self.counted(answer)
+    }
+
     fn finish(&mut self) -> Result<(), Failed>
         ensures finished { Finishes None None result }
-        ensures bytes { Gains (λ xs. ⊥) (λ xs. ⊥) [] }
+        ensures emptied { OnOk result (IsEmptied (straight (λ xs. ⊥))) }
+        ensures bytes { Gains (straight (λ xs. ⊥)) (straight (λ xs. ⊥)) [] }
         ensures cause { HasCause self.old.count self.new.count result }
         ensures count { OnErr result (self.new.count ≡ one_more self.old.count) }
     {

@@ -1,6 +1,6 @@
-ghost use Rattle.std.specs.Prelude.{◌≡◌, ◌<◌, [], true, false, Some, IfOk, All, length, min};
+ghost use Rattle.std.specs.Prelude.{◌≡◌, ◌<◌, [], true, false, Some, IfOk, OnOk, All, length, min};
 ghost use Rattle.ws_io.specs.Faults.{HasCause};
-ghost use Rattle.ws_io.specs.Gain.{Gains, Writes, Finishes};
+ghost use Rattle.ws_io.specs.Gain.{Gains, IsEmptied, KeepsTold, Writes, Finishes, straight};
 ghost use Rattle.ws_io.specs.Memory.{held_at, one_more};
 
 use crate::numbers::number_at;
@@ -46,14 +46,14 @@ impl SteadySink {
 impl Sink for SteadySink {
     ghost faults = { λ s. 0 };
 
-    ghost got = { λ s xs. Unit {0} };
+    ghost got = { λ s. straight (λ xs. Unit {0}) };
 
     ghost finished = { λ s. Some s.finished };
 
     fn write(&mut self, piece: &[u8]) -> Result<usize, Failed>
         ensures answer { IfOk result (λ count. count ≡ min (held_at self.old.most self.old.writes) (length piece.now)) }
         ensures after { self.new ≡ record self.old { writes = one_more self.old.writes } }
-        ensures bytes { Writes (λ xs. Unit {0}) (λ xs. Unit {0}) result piece.now }
+        ensures bytes { Writes (straight (λ xs. Unit {0})) (straight (λ xs. Unit {0})) result piece.now }
         ensures cause { HasCause 0 0 result }
     {
         let index = self.writes;
@@ -61,10 +61,21 @@ impl Sink for SteadySink {
         Ok(number_at(self.most.as_slice(), index).min(piece.len() as u64) as usize)
     }
 
+    fn flush(&mut self) -> Result<(), Failed>
+        ensures same { self.new ≡ self.old }
+        ensures emptied { OnOk result (IsEmptied (straight (λ xs. Unit {0}))) }
+        ensures bytes { Gains (straight (λ xs. Unit {0})) (straight (λ xs. Unit {0})) [] }
+        ensures finished { KeepsTold (Some self.old.finished) (Some self.new.finished) }
+        ensures cause { HasCause 0 0 result }
+    {
+        Ok(())
+    }
+
     fn finish(&mut self) -> Result<(), Failed>
         ensures after { self.new ≡ record self.old { finished = true } }
         ensures finished { Finishes (Some self.old.finished) (Some self.new.finished) result }
-        ensures bytes { Gains (λ xs. Unit {0}) (λ xs. Unit {0}) [] }
+        ensures emptied { OnOk result (IsEmptied (straight (λ xs. Unit {0}))) }
+        ensures bytes { Gains (straight (λ xs. Unit {0})) (straight (λ xs. Unit {0})) [] }
         ensures cause { HasCause 0 0 result }
     {
         self.finished = true;

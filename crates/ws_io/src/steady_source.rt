@@ -1,6 +1,6 @@
 ghost use Rattle.std.specs.Prelude.{◌≡◌, ◌<◌, [], false, Some, IfOk, All, length};
 ghost use Rattle.ws_io.specs.Faults.{HasCause};
-ghost use Rattle.ws_io.specs.Feed.{Reads};
+ghost use Rattle.ws_io.specs.Feed.{HasAtLeast, Reads};
 ghost use Rattle.ws_io.specs.Memory.{steady_moves, after_steady_read};
 
 use crate::{Failed, MemSource, Source};
@@ -57,5 +57,12 @@ impl Source for SteadySource {
             Ok(count) => Ok(count),
             Err(Failed) => unreachable!(),
         }
+    }
+
+    fn ready(&self) -> usize
+        ensures none { result ≡ 0 }
+        ensures ready { HasAtLeast (Some self.now.feed) result }
+    {
+        0
     }
 }
