@@ -4,6 +4,7 @@ use Rattle.ws_value.specs.declared.ids.HostId.{HostId}
 use Rattle.ws_value.specs.declared.ids.StreamId.{StreamId}
 use Rattle.ws_value.specs.declared.value.Value.{Value}
 use Rattle.ws_value.specs.declared.value.Value.TheVariants.{Bytes, Plain}
+use Rattle.ws_io.specs.Gain.{Got}
 use Rattle.ws_io.specs.Feed.{Feed}
 use Rattle.ws_io.specs.declared.outside.Failed.{Failed}
 use Rattle.ws_steps.specs.declared.calls.Call.{Call}
@@ -115,7 +116,7 @@ module _ (id : HostId) (i : StreamId) (a b : Node) where
   flushes-acts (NotFlushed before after w at dead same) = acts-is a b _ same refl refl refl
   flushes-acts (NothingToFlush none same) = acts-is a b _ same refl refl refl
 
-module _ (id : HostId) (a b : Node) (old new : Shown) (p q : List ℕ → Type 0) where
+module _ (id : HostId) (a b : Node) (old new : Shown) (p q : Got) where
   writes-acts : (piece : List ℕ) → Writes id piece a b old new p q → Acts a b
   writes-acts piece (WroteAll was_open far gained calm kept c draws asks) =
       acts-then a c b (acts-from a (written (length piece) a) c (draws-acts (length piece) _ c draws) refl refl refl) (asks-acts _ c b asks)
@@ -124,7 +125,7 @@ module _ (id : HostId) (a b : Node) (old new : Shown) (p q : List ℕ → Type 0
   writes-acts piece (Reached was_open reached untouched fails) = acts-from a _ b (asks-acts _ _ b fails) refl refl refl
 
   finishes-acts : Finishes id a b old new p q → Acts a b
-  finishes-acts (FinishedWell was_open gained calm done asks) = acts-from a _ b (asks-acts _ _ b asks) refl refl refl
+  finishes-acts (FinishedWell was_open gained emptied calm done asks) = acts-from a _ b (asks-acts _ _ b asks) refl refl refl
   finishes-acts (FinishedBadly was_open gained rose kept fails) = acts-from a _ b (asks-acts _ _ b fails) refl refl refl
   finishes-acts (FinishedNot was_shut untouched fails) = acts-from a _ b (asks-acts _ _ b fails) refl refl refl
 

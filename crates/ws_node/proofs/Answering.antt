@@ -17,7 +17,7 @@ use Rattle.ws_flow.proofs.Steps.{goes_rests}
 use Rattle.ws_flow.proofs.Told.{short_trans, before_front, before_of_short}
 use Rattle.ws_io.specs.Faults.{Rose}
 use Rattle.ws_io.specs.Feed.{Feed}
-use Rattle.ws_io.specs.Gain.{Gains, KeepsTold, Becomes}
+use Rattle.ws_io.specs.Gain.{Gains, KeepsTold, Becomes, Got}
 use Rattle.ws_io.specs.Moment.{Moment}
 use Rattle.ws_io.proofs.Flow.{KeepsTold-same}
 use Rattle.ws_joined_laws.specs.Ends.{StopsIn}
@@ -60,7 +60,7 @@ use Rattle.ws_node.proofs.Unheard.{at-there}
 
 -- how an open output goes on, and one that was shut
 
-output-open : (o : Output) (gain : List ℕ) (old new : Moment) → o ≡ output.Open → new.write_faults ≡ old.write_faults → KeepsTold old.finished new.finished
+pub output-open : (o : Output) (gain : List ℕ) (old new : Moment) → o ≡ output.Open → new.write_faults ≡ old.write_faults → KeepsTold old.finished new.finished
     → OutputGoes o o gain MayCome old new
 output-open output.Open gain old new e calm kept = (refl, calm, kept)
 output-open output.Finished gain old new e calm kept = absurd (cc)
@@ -68,7 +68,7 @@ output-open output.Failed gain old new e calm kept = absurd (cc)
 output-open output.Aborted gain old new e calm kept = absurd (cc)
 output-open output.Edge gain old new e calm kept = absurd (cc)
 
-output-fails : (o : Output) (gain : List ℕ) (old new : Moment) → o ≡ output.Open → Rose old.write_faults new.write_faults → KeepsTold old.finished new.finished
+pub output-fails : (o : Output) (gain : List ℕ) (old new : Moment) → o ≡ output.Open → Rose old.write_faults new.write_faults → KeepsTold old.finished new.finished
     → OutputGoes o (shut o) gain Lost old new
 output-fails output.Open gain old new e rose kept = (refl, rose, kept)
 output-fails output.Finished gain old new e rose kept = absurd (cc)
@@ -169,7 +169,7 @@ module _ (shape : Shape) (past : List Entry) (id : HostId) (call : HostCall) (is
       asks-quietly shape past n b (Settle id x) tt (settle-quiet shape id x) led
       (may-settle shape past n id call is x (All-cons (IsCause n) (FaultReason (fault_of n.exit.output)) [] (caused n not_edge closed reached) (All-nil (IsCause n))) (fair-fault n.exit.output) (λ c e feeds. absurd (cc)) (λ s f e. absurd (cc))) asks
 
-module _ (rf : ℕ) (feed : Option Feed) (p q : List ℕ → Type 0) (shape : Shape) (past : List Entry) (a : Node) (realm : SeenRealm) (id : HostId) (b : Node) (old new : Shown) (since : Since shape past a)
+module _ (rf : ℕ) (feed : Option Feed) (p q : Got) (shape : Shape) (past : List Entry) (a : Node) (realm : SeenRealm) (id : HostId) (b : Node) (old new : Shown) (since : Since shape past a)
     (goes : a.core.stopped ≡ None) where
   abbrev was : Node
   was = with_realm realm a
@@ -210,7 +210,7 @@ module _ (rf : ℕ) (feed : Option Feed) (p q : List ℕ → Type 0) (shape : Sh
           rw untouched.shown
           (sunk shape past a realm since goes sink_link is_last id call t event heard b a.entrance.ahead a.exit.abort o after (told [] Lost) lost-out not_edge rf feed old old p q [] Lost untouched.gained ([], refl) (λ e. omega arith)
           (subst (λ (z : Output). OutputGoes a.exit.output z [] Lost (shows rf feed old) (shows rf feed old)) (sym same) (output-alone a.exit.output [] Lost (shows rf feed old) not_edge shut_already refl))
-          (abort-same a.exit.abort [] o) (λ some. absurd (omega arith)) (one-shut a.entrance.ahead a.exit.abort o after (shut-kind a.exit.output not_edge) (shut-shut a.exit.output) refl))
+          (abort-same a.exit.abort [] o) (λ some. absurd (omega arith)) (one-shut a.entrance.ahead a.exit.abort o after (shut-kind a.exit.output not_edge) (shut-shut a.exit.output) refl) (λ e f. absurd (shut_already e)))
 
       -- it fails as it is asked for this, of which some was written
       broken : (went : Told (List ℕ)) (gain : List ℕ) → a.exit.output ≡ output.Open → Gains p q gain → Rose old.faults new.faults → KeepsTold old.finished new.finished → Fails id was b
@@ -223,6 +223,7 @@ module _ (rf : ℕ) (feed : Option Feed) (p q : List ℕ → Type 0) (shape : Sh
           let after = badly shape further id call event.its (record was { exit = record was.exit { output = o } }) b (shut-kind a.exit.output not_edge) led (shut-shut a.exit.output) (λ e. absurd (let f = open-fails a.exit.output is in cc)) asks in
           sunk shape past a realm since goes sink_link is_last id call t event heard b a.entrance.ahead a.exit.abort o after went there not_edge rf feed old new p q gain Lost gained written ahead
           (output-fails a.exit.output gain (shows rf feed old) (shows rf feed new) is rose kept) abort last (one-shut a.entrance.ahead a.exit.abort o after (shut-kind a.exit.output not_edge) (shut-shut a.exit.output) refl)
+          (λ e f. absurd (let k : output.Failed ≡ output.Finished = sym (open-fails a.exit.output is) ∙ f in cc))
 
     -- what the sink of the last link is told
     by-sink : (t : Told Value) (k : ℕ) → only_at (count_in shape) (by_sink shape.target t) k ≡ only_at sink_link t k
@@ -302,6 +303,7 @@ module _ (rf : ℕ) (feed : Option Feed) (p q : List ℕ → Type 0) (shape : Sh
           sunk shape past a realm since goes sink_link is_last id call one_told event heard b left abort_left a.exit.output after (told (piece ∷ []) MayCome) out not_edge rf feed old new p q piece MayCome gained (append-nil piece, refl)
           (had-counts a.core.stages.items (length piece) a.entrance.ahead) (output-open a.exit.output piece (shows rf feed old) (shows rf feed new) is calm kept)
           (abort-nearer a.exit.abort piece a.exit.output near) (λ some. stops-here (length piece) piece piece some (omega arith) some) (one-written after is near)
+          (λ e f. absurd (let k : output.Open ≡ output.Finished = sym e ∙ f in cc))
       wrote (WroteLess is near gain rest e gained rose kept asks) =
           let few : length gain ≤ length piece = let m : length piece ≡ length gain + length rest = ap length e ∙ length-append gain rest in omega arith in
           broken call one_told event heard (told (piece ∷ []) Lost) gain is gained rose kept asks out-lost (rest, append-nil piece ∙ e) (λ n. omega arith)
@@ -313,19 +315,19 @@ module _ (rf : ℕ) (feed : Option Feed) (p q : List ℕ → Type 0) (shape : Sh
           let after = badly shape further id call event.its n b refl led (λ e. cc) (λ e. reached) asks in
           rw untouched.shown
           (sunk shape past a realm since goes sink_link is_last id call one_told event heard b a.entrance.ahead a.exit.abort output.Aborted after (told [] Lost) (lost-out call one_told event heard) not_edge rf feed old old p q [] Lost untouched.gained ([], refl)
-          (λ e. omega arith) (output-aborts a.exit.output (shows rf feed old) is) (abort-same a.exit.abort [] output.Aborted) (λ some. absurd (omega arith)) (one-shut call one_told event heard a.entrance.ahead a.exit.abort output.Aborted after refl (λ e. cc) refl))
+          (λ e. omega arith) (output-aborts a.exit.output (shows rf feed old) is) (abort-same a.exit.abort [] output.Aborted) (λ some. absurd (omega arith)) (one-shut call one_told event heard a.entrance.ahead a.exit.abort output.Aborted after refl (λ e. cc) refl) (λ e f. absurd (cc)))
 
     -- the sink is closed
     module _ (event : AfterEvent shape past a realm (Host id (Close a.exit.sink))) where
       pub closed : Finishes id was b old new p q → Handled shape a b (shows rf feed old) (shows rf feed new) p q
-      closed (FinishedWell is gained calm done asks) =
+      closed (FinishedWell is gained emptied calm done asks) =
           let call = Close a.exit.sink in
           let led = led-output shape further was output.Finished (sym not_edge) (λ h. absurd (h is)) (λ e. absurd (cc)) event.led in
           let after = well shape further id call event.its (record was { exit = record was.exit { output = output.Finished } }) b led (λ e feeds. refl) (λ s f. cc) asks in
           sunk shape past a realm since goes sink_link is_last id call (told [] Closed) event heard-close b a.entrance.ahead a.exit.abort output.Finished after (told [] Closed)
           (heard-out shape past a realm since goes sink_link is_last id call (told [] Closed) event heard-close) not_edge rf feed old new p q [] Closed gained (refl, refl)
           (λ e. omega arith) (output-finishes a.exit.output (shows rf feed old) (shows rf feed new) is calm done) (abort-same a.exit.abort [] output.Finished) (λ some. absurd (omega arith))
-          (one-shut call (told [] Closed) event heard-close a.entrance.ahead a.exit.abort output.Finished after refl (λ e. cc) refl)
+          (one-shut call (told [] Closed) event heard-close a.entrance.ahead a.exit.abort output.Finished after refl (λ e. cc) refl) (λ e f. emptied)
       closed (FinishedBadly is gained rose kept asks) =
           let call = Close a.exit.sink in
           broken call (told [] Closed) event heard-close (told [] Lost) [] is gained rose kept asks (lost-out call (told [] Closed) event heard-close) ([], refl) (λ n. omega arith)

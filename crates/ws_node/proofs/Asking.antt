@@ -9,7 +9,7 @@ use Rattle.ws_value.specs.declared.ids.StreamId.{StreamId}
 use Rattle.ws_value.specs.declared.value.Plain.{Plain as PlainValue}
 use Rattle.ws_value.specs.declared.value.Value.{Value}
 use Rattle.ws_value.specs.declared.value.Value.TheVariants.{Bytes, Plain}
-use Rattle.ws_io.specs.Gain.{Gains}
+use Rattle.ws_io.specs.Gain.{Gains, Got}
 use Rattle.ws_io.proofs.Flow.{Gains-nothing}
 use Rattle.ws_laws.proofs.Ages.{called-age, worked-age}
 use Rattle.ws_steps.specs.declared.calls.Call.{Call}
@@ -120,19 +120,19 @@ not_so P false b e f h = subst P e h
 not_so P true b e f h = absurd (cc)
 
 -- an output that isn't touched
-pub untouched : (s : Shown) (p : List ℕ → Type 0) → Untouched s s p p
+pub untouched : (s : Shown) (p : Got) → Untouched s s p p
 untouched s p = record { shown = refl; gained = Gains-nothing p }
 
 -- all of a piece was gained
-pub gains-all : (p q : List ℕ → Type 0) (piece gain rest : List ℕ) → piece ≡ gain ++ rest → rest ≡ [] → Gains p q gain → Gains p q piece
+pub gains-all : (p q : Got) (piece gain rest : List ℕ) → piece ≡ gain ++ rest → rest ≡ [] → Gains p q gain → Gains p q piece
 gains-all p q piece gain rest e none g = subst (Gains p q) (sym (e ∙ (ap (λ r. gain ++ r) none ∙ append-nil gain))) g
 
 -- what isn't of the sink is settled
-pub settles-other_stream : (id : HostId) (v : Value) (a b : Node) (old new : Shown) (p q : List ℕ → Type 0) → Settles id a b old new p q → writes_by id v a b old new p q false
+pub settles-other_stream : (id : HostId) (v : Value) (a b : Node) (old new : Shown) (p q : Got) → Settles id a b old new p q → writes_by id v a b old new p q false
 settles-other_stream id (Bytes piece) a b old new p q h = h
 settles-other_stream id (Plain v) a b old new p q h = h
 
-pub settles-plain : (id : HostId) (v : PlainValue) (t : Bool) (a b : Node) (old new : Shown) (p q : List ℕ → Type 0) → Settles id a b old new p q → writes_by id (Plain v) a b old new p q t
+pub settles-plain : (id : HostId) (v : PlainValue) (t : Bool) (a b : Node) (old new : Shown) (p q : Got) → Settles id a b old new p q → writes_by id (Plain v) a b old new p q t
 settles-plain id v true a b old new p q h = h
 settles-plain id v false a b old new p q h = h
 
@@ -268,8 +268,8 @@ settles-unless_bytes id i (Plain v) a b e h = h
 
 -- what is said of a call, or of a value, that is known
 
-pub answers-so : (id : HostId) (call is : HostCall) (a b : Node) (old new : Shown) (p q : List ℕ → Type 0) → call ≡ is → Answers id is a b old new p q → Answers id call a b old new p q
+pub answers-so : (id : HostId) (call is : HostCall) (a b : Node) (old new : Shown) (p q : Got) → call ≡ is → Answers id is a b old new p q → Answers id call a b old new p q
 answers-so id call is a b old new p q e h = subst (λ (c : HostCall). Answers id c a b old new p q) (sym e) h
 
-pub writes-so : (id : HostId) (v is : Value) (t : Bool) (a b : Node) (old new : Shown) (p q : List ℕ → Type 0) → v ≡ is → writes_by id is a b old new p q t → writes_by id v a b old new p q t
+pub writes-so : (id : HostId) (v is : Value) (t : Bool) (a b : Node) (old new : Shown) (p q : Got) → v ≡ is → writes_by id is a b old new p q t → writes_by id v a b old new p q t
 writes-so id v is t a b old new p q e h = subst (λ (w : Value). writes_by id w a b old new p q t) (sym e) h

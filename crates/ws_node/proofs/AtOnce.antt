@@ -1,7 +1,8 @@
 -- A run that ends before anything was read, for want of memory.
-use Rattle.std.proofs.Common.{ℕ, ℤ, List, [], Option, Some, None, refl, arith}
+use Rattle.std.proofs.Common.{ℤ, [], Option, Some, None, inl, refl, arith}
 use Rattle.ws_flow.specs.declared.plan.Plan.{Plan}
 use Rattle.ws_flow.specs.Told.{Open}
+use Rattle.ws_io.specs.Gain.{Got}
 use Rattle.ws_io.specs.Moment.{Moment}
 use Rattle.ws_io.specs.declared.status.Status.TheVariants.{NoMemory}
 use Rattle.ws_io.proofs.Flow.{Gains-nothing, Fed-nothing, KeepsTold-same}
@@ -11,7 +12,7 @@ none-within : (abort : Option ℤ) → IsWithinAbort abort []
 none-within None = tt
 none-within (Some after) = omega arith
 
-pub ends-at_once : (plan : Plan) (m : Moment) (p : List ℕ → Type 0) → Ends NoMemory plan m m p p
+pub ends-at_once : (plan : Plan) (m : Moment) (p : Got) → Ends NoMemory plan m m p p
 ends-at_once plan m p =
     record {
       taken = [];
@@ -26,4 +27,6 @@ ends-at_once plan m p =
       abort = none-within plan.abort_after;
       allowed = tt;
       finish_kept = KeepsTold-same m.finished;
+      later = inl refl;
+      emptied = λ e. absurd (cc);
     }

@@ -1,5 +1,5 @@
 -- What a run may end with, by how its node went.
-use Rattle.std.proofs.Common.{◌≡◌, ◌≢◌, ◌+◌, ◌<◌, ◌^◌, ℕ, ℤ, true, List, [], ◌∷◌, ◌++◌, length, map, nat_abs, Option, Some, None, false, refl, sym, ap, ◌∙◌, subst, append-nil, length-append, arith}
+use Rattle.std.proofs.Common.{◌≡◌, inl, inr, ◌≢◌, ◌+◌, ◌<◌, ◌^◌, ℕ, ℤ, true, List, [], ◌∷◌, ◌++◌, length, map, nat_abs, Option, Some, None, false, refl, sym, ap, ◌∙◌, subst, append-nil, length-append, arith}
 use Rattle.std.specs.List.{concat}
 use Rattle.ws_flow.specs.declared.plan.Ending.TheVariants.{Fine}
 use Rattle.ws_flow.specs.declared.plan.Plan.{Plan}
@@ -12,9 +12,9 @@ use Rattle.ws_flow.specs.Plans.{reach, stages_of}
 use Rattle.ws_flow.specs.Told.{bytes_of, Mark, Open as MayCome, Closed, Broken, Lost, Told, told, then_told, IsFront, IsBefore}
 use Rattle.ws_flow.proofs.Cutting.{some_joined}
 use Rattle.ws_flow.proofs.Told.{before_front}
-use Rattle.ws_io.specs.Faults.{Rose}
+use Rattle.ws_io.specs.Faults.{IsLater, Rose}
 use Rattle.ws_io.specs.Feed.{IsEmpty, IsEnded}
-use Rattle.ws_io.specs.Gain.{Becomes, KeepsTold}
+use Rattle.ws_io.specs.Gain.{Becomes, KeepsTold, Got}
 use Rattle.ws_io.specs.Moment.{Moment}
 use Rattle.ws_io.specs.declared.status.Status.{Status}
 use Rattle.ws_io.specs.declared.status.Status.TheVariants.{Done, Stage as StageIs, ReadFault, WriteFault, Aborted as AbortedIs, NoMemory, TooMuch}
@@ -121,6 +121,18 @@ output-failed output.Aborted b gain m m₀ m₁ e f h = absurd (cc)
 output-failed output.Edge b gain m m₀ m₁ e f h = absurd (cc)
 output-failed output.Open output.Edge gain m m₀ m₁ e f h = absurd h
 
+-- the count of its faults
+pub output-later : (a b : Output) (gain : List ℕ) (m : Mark) (m₀ m₁ : Moment) → a ≡ output.Open → OutputGoes a b gain m m₀ m₁ → IsLater m₀.write_faults m₁.write_faults
+output-later output.Open output.Open gain m m₀ m₁ e h = inl h.1
+output-later output.Open output.Finished gain m m₀ m₁ e h = inl h.1
+output-later output.Open output.Failed gain m m₀ m₁ e h = inr h.1
+output-later output.Open output.Aborted gain m m₀ m₁ e h = inl h.1
+output-later output.Open output.Edge gain m m₀ m₁ e h = absurd h
+output-later output.Finished b gain m m₀ m₁ e h = absurd (cc)
+output-later output.Failed b gain m m₀ m₁ e h = absurd (cc)
+output-later output.Aborted b gain m m₀ m₁ e h = absurd (cc)
+output-later output.Edge b gain m m₀ m₁ e h = absurd (cc)
+
 -- what the output got with an abort
 few : (left : ℕ) (chunks : List (List ℕ)) (gain : List ℕ) → (0 < length gain → StopsAt left chunks gain) → length gain < left + 2 ^ 25
 few left chunks [] last = omega arith
@@ -159,11 +171,11 @@ from-input : (a b : Entrance) (m₀ m₁ : Moment) (x : Told (List ℕ)) → a.i
 from-input a b m₀ m₁ x e (ByInput f from) = from
 from-input a b m₀ m₁ x e (ByEdge f on) = absurd (let g : is_edge a.input ≡ false = ap (λ (i : Input). is_edge i) e in cc)
 
-to-output : (a b : Exit) (m₀ m₁ : Moment) (p q : List ℕ → Type 0) (x : Told (List ℕ)) (gain : List ℕ) (out : Mark) → a.output ≡ output.Open → GoesOut a b m₀ m₁ p q x gain out → ToGoes a b m₀ m₁ p q x gain out
+to-output : (a b : Exit) (m₀ m₁ : Moment) (p q : Got) (x : Told (List ℕ)) (gain : List ℕ) (out : Mark) → a.output ≡ output.Open → GoesOut a b m₀ m₁ p q x gain out → ToGoes a b m₀ m₁ p q x gain out
 to-output a b m₀ m₁ p q x gain out e (ToOutput f to) = to
 to-output a b m₀ m₁ p q x gain out e (ToEdge f on) = absurd (let g : feeds_edge a.output ≡ false = ap (λ (o : Output). feeds_edge o) e in cc)
 
-module _ (plan : Plan) (a n : Node) (m₀ m₁ : Moment) (p q : List ℕ → Type 0) (accepted : IsAccepted plan) (new : IsNew (whole_of plan) 0 plan.abort_after a) (w : Went a n m₀ m₁ p q)
+module _ (plan : Plan) (a n : Node) (m₀ m₁ : Moment) (p q : Got) (accepted : IsAccepted plan) (new : IsNew (whole_of plan) 0 plan.abort_after a) (w : Went a n m₀ m₁ p q)
     (counts : HasCounts n.entrance) where
   abbrev taken : List ℕ
   taken = concat w.read.items
@@ -292,10 +304,12 @@ module _ (plan : Plan) (a n : Node) (m₀ m₁ : Moment) (p q : List ℕ → Typ
         abort = abort-within plan.abort_after w.went.items w.gain (flow.keeps-flow plan n m₀ m₁ w.read w.went w.gain w.out gone).near;
         allowed = allows status by;
         finish_kept = leaves status by;
+        later = output-later a.exit.output n.exit.output w.gain w.out m₀ m₁ new.output into.output;
+        emptied = λ e. into.emptied new.output (subst (λ (s : Status). EndsBy s n) e by);
       }
 
 -- no error came over an edge
-own-end : (plan : Plan) (a n : Node) (status : Status) (m₀ m₁ : Moment) (p q : List ℕ → Type 0) → IsNew (whole_of plan) 0 plan.abort_after a → Went a n m₀ m₁ p q → EndedBy status n → EndsBy status n
+own-end : (plan : Plan) (a n : Node) (status : Status) (m₀ m₁ : Moment) (p q : Got) → IsNew (whole_of plan) 0 plan.abort_after a → Went a n m₀ m₁ p q → EndedBy status n → EndsBy status n
 own-end plan a n status m₀ m₁ p q new w (Own by) = by
 own-end plan a n status m₀ m₁ p q new w (Passed r came other is) =
     let from = from-input a.entrance n.entrance m₀ m₁ w.read new.input w.from in
@@ -304,7 +318,7 @@ own-end plan a n status m₀ m₁ p q new w (Passed r came other is) =
     absurd (let less = c.1 in omega arith)
 
 -- a run whose node ends with a status
-pub ends-from : (plan : Plan) (a n : Node) (status : Status) (m₀ m₁ : Moment) (p q : List ℕ → Type 0) → IsAccepted plan → IsNew (whole_of plan) 0 plan.abort_after a → Went a n m₀ m₁ p q
+pub ends-from : (plan : Plan) (a n : Node) (status : Status) (m₀ m₁ : Moment) (p q : Got) → IsAccepted plan → IsNew (whole_of plan) 0 plan.abort_after a → Went a n m₀ m₁ p q
     → EndsAs (Some status) n → Ends status plan m₀ m₁ p q
 ends-from plan a n status m₀ m₁ p q accepted new went ends =
     ends-with plan a n m₀ m₁ p q accepted new went ends.counts status (own-end plan a n status m₀ m₁ p q new went ends.by)

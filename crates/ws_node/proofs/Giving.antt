@@ -5,6 +5,7 @@ use Rattle.ws_value.specs.declared.value.Message.{Message}
 use Rattle.ws_value.specs.declared.value.Message.TheVariants.{Pull, Chunk, Close, Error}
 use Rattle.ws_value.specs.declared.value.Value.TheVariants.{Plain as PlainValue, Bytes}
 use Rattle.ws_edge.specs.Edge.{AtEdge, given, last_error}
+use Rattle.ws_io.specs.Gain.{Got, straight}
 use Rattle.ws_io.specs.Feed.{Feed}
 use Rattle.ws_io.specs.Moment.{Moment, moment}
 use Rattle.ws_port.specs.Ends.{Posted}
@@ -25,12 +26,13 @@ use Rattle.ws_node.specs.declared.node.Entrance.{Entrance}
 use Rattle.ws_node.specs.declared.node.Node.{Node}
 use Rattle.ws_node.specs.Edges.{posts_at, PostsBoth, tells_at, TellsBoth, TakesAbove, NotAbove, NoMore, NoneAbove, TookAbove, TakesBelow, NotBelow, NoneBelow, TookBelow, WaitsAt, Waiting, NoRoom, NoEdge, had_as, had_entrance, waits_by, with_above, with_below}
 use Rattle.ws_node.specs.Hears.{Hears}
-use Rattle.ws_node.specs.Moves.{Reads, ReadNot, ReadOnce, Shown, Wanted, Works, stopped_by, with_realm}
+use Rattle.ws_node.specs.Moves.{Empties, Reads, ReadNot, ReadOnce, Shown, Wanted, Works, stopped_by, with_realm}
 use Rattle.ws_node.specs.Node.{port_below, sent_at}
 use Rattle.ws_node.specs.Past.{IsGiven, Whole, FirstPart, WithLast}
 use Rattle.ws_node.specs.Turns.{EndGrowsBy, EndPostsAt, GivesHeard, PostsHeard}
 use Rattle.ws_node.specs.Went.{ComesIn, ByInput, ByEdge, GoesOut, ToOutput, ToEdge, Went}
 use Rattle.ws_node.proofs.Acting.{Acts, acts-is, answers-acts, asks-acts, reads-acts, run-both, taken-both}
+use Rattle.ws_node.proofs.Emptying.{empties-acts, empties-stay}
 use Rattle.ws_node.proofs.Going.{Stays, going-stays, went-same}
 use Rattle.ws_node.proofs.Quiet.{posted-append}
 use Rattle.ws_node.proofs.Since.{first-taken, none-taken}
@@ -293,7 +295,7 @@ module _ (c : PortId) (m : Message) (a : Node) (realm : SeenRealm) (b : Node) (f
       (grows-none _ b.core.stopped a.entrance.above b.entrance.above (ap told f) (given-same a.entrance.above b.entrance.above (ap (λ (n : Node). n.entrance.above) h)))
       (grows-none _ b.core.stopped a.exit.below b.exit.below (ap told e) (given-same a.exit.below b.exit.below (ap (λ (n : Node). n.exit.below) h)))
 
-hears-of : (e : Event) (a : Node) (realm : SeenRealm) (b : Node) (old new : Shown) (p q : List ℕ → Type 0) → first_event a.core.realm.slots.promises.events ≡ Some e
+hears-of : (e : Event) (a : Node) (realm : SeenRealm) (b : Node) (old new : Shown) (p q : Got) → first_event a.core.realm.slots.promises.events ≡ Some e
     → realm.slots ≡ after_event a.core.realm.slots → Hears e (with_realm realm a) b old new p q → HearsOf e a b
 hears-of (Host id call) a realm b old new p q first slots h = acts-hear (Host id call) a realm b (λ port. refl) first slots (answers-acts id (with_realm realm a) b old new p q call h)
 hears-of (Settled r) a realm b old new p q first slots h = acts-hear (Settled r) a realm b (λ port. refl) first slots (acts-is (with_realm realm a) b (with_realm realm a) h.0 refl refl refl)
@@ -324,11 +326,13 @@ hears-act e a b c stays h g = by b.core.stopped refl where
     below = grows-on (posted_in (port_below a.entrance) (e ∷ [])) b.core.stopped c.core.stopped a.exit.below b.exit.below c.exit.below goes h.below g.below;
   }
 
-pub heard-of : (a : Node) (realm : SeenRealm) (b c : Node) (e : Event) (old new : Shown) (p q : List ℕ → Type 0) (feed feed' : Option Feed) (before now : ℕ)
-    → first_event a.core.realm.slots.promises.events ≡ Some e → realm.slots ≡ after_event a.core.realm.slots → Hears e (with_realm realm a) b old new p q → Reads b c feed feed' before now
-    → HearsOf e a c
-heard-of a realm b c e old new p q feed feed' before now first slots hears reads =
-    hears-act e a b c (reads-stay b c feed feed' before now reads) (hears-of e a realm b old new p q first slots hears) (reads-acts b c feed feed' before now reads)
+pub heard-of : (a : Node) (realm : SeenRealm) (b d c : Node) (e : Event) (old new newer : Shown) (p q r : Got) (feed feed' : Option Feed) (before now : ℕ)
+    → first_event a.core.realm.slots.promises.events ≡ Some e → realm.slots ≡ after_event a.core.realm.slots → Hears e (with_realm realm a) b old new p q
+    → Empties b d new newer q r → Reads d c feed feed' before now → HearsOf e a c
+heard-of a realm b d c e old new newer p q r feed feed' before now first slots hears empties reads =
+    hears-act e a d c (reads-stay d c feed feed' before now reads)
+    (hears-act e a b d (empties-stay b d new newer q r empties) (hears-of e a realm b old new p q first slots hears) (empties-acts b d new newer q r empties))
+    (reads-acts d c feed feed' before now reads)
 
 -- there was none
 pub none-gives : (a : Node) (realm : SeenRealm) → first_event a.core.realm.slots.promises.events ≡ None → realm.slots ≡ after_event a.core.realm.slots → GivesHeard a (with_realm realm a)
@@ -396,13 +400,13 @@ record PostsMore (o q : Option AtEdge) : Type 0 where
 same-end : (o q : Option AtEdge) → q ≡ o → PostsMore o q
 same-end o q e = record { posted = []; sent = ap sent_at e ∙ sym (append-nil (sent_at o)) }
 
-posts-up : (a b : Node) (m n : Moment) (p q : List ℕ → Type 0) → Went a b m n p q → PostsMore a.entrance.above b.entrance.above
+posts-up : (a b : Node) (m n : Moment) (p q : Got) → Went a b m n p q → PostsMore a.entrance.above b.entrance.above
 posts-up a b m n p q w = by w.from where
   by : ComesIn a.entrance b.entrance m n w.read → PostsMore a.entrance.above b.entrance.above
   by (ByInput e on) = same-end a.entrance.above b.entrance.above on.above
   by (ByEdge e on) = record { posted = on.posted; sent = on.end.sent }
 
-posts-down : (a b : Node) (m n : Moment) (p q : List ℕ → Type 0) → Went a b m n p q → PostsMore a.exit.below b.exit.below
+posts-down : (a b : Node) (m n : Moment) (p q : Got) → Went a b m n p q → PostsMore a.exit.below b.exit.below
 posts-down a b m n p q w = by w.into where
   by : GoesOut a.exit b.exit m n p q w.went w.gain w.out → PostsMore a.exit.below b.exit.below
   by (ToOutput e on) = same-end a.exit.below b.exit.below on.below
@@ -419,7 +423,7 @@ ends-post heard stopped (Some x) (Some y) more g = record {
       (subst (λ ms. IsGiven (given x ++ heard) ms stopped) (ap (λ ms. ms ++ y.waiting) more.sent ∙ append_assoc x.to.sent more.posted y.waiting) g));
 }
 
-pub gives-post : (a b : Node) (m n : Moment) (p q : List ℕ → Type 0) → Went a b m n p q → GivesHeard a b → PostsHeard a b
+pub gives-post : (a b : Node) (m n : Moment) (p q : Got) → Went a b m n p q → GivesHeard a b → PostsHeard a b
 gives-post a b m n p q w g = record {
   entries = g.entries;
   slots = ap trim g.slots;
@@ -428,4 +432,4 @@ gives-post a b m n p q w g = record {
 }
 
 pub posts-nothing : (a : Node) → PostsHeard a a
-posts-nothing a = gives-post a a (moment 0 None 0 None) (moment 0 None 0 None) (λ xs. Unit {0}) (λ xs. Unit {0}) (went-same a (moment 0 None 0 None) (λ xs. Unit {0})) (gives-same a)
+posts-nothing a = let p : Got = straight (λ xs. Unit {0}) in gives-post a a (moment 0 None 0 None) (moment 0 None 0 None) p p (went-same a (moment 0 None 0 None) p) (gives-same a)

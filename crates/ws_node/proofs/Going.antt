@@ -17,7 +17,7 @@ use Rattle.ws_flow.proofs.Told.{then_assoc, short_refl}
 use Rattle.ws_segment_laws.specs.Segments.{Move, all_then}
 use Rattle.ws_segment_laws.proofs.Segments.{each_goes_on}
 use Rattle.ws_io.proofs.Flow.{Gains-nothing}
-use Rattle.ws_io.specs.Gain.{Gains}
+use Rattle.ws_io.specs.Gain.{Gains, Got}
 use Rattle.ws_io.specs.Moment.{Moment}
 use Rattle.ws_realm.specs.declared.realm.Why.{Why}
 use Rattle.ws_stages.specs.State.{State}
@@ -37,7 +37,7 @@ no-stages [] (y ∷ ys) e f = absurd (cc)
 no-stages (x ∷ xs) (y ∷ ys) e f = absurd (cc)
 
 -- a node that reads the input and sends it on, without stages, does so on
-pub head-stays : (a b : Node) (m₀ m₁ : Moment) (p q : List ℕ → Type 0) (read went : Told (List ℕ)) (gain : List ℕ) (out : Mark) → stages_in b.core ≡ stages_in a.core
+pub head-stays : (a b : Node) (m₀ m₁ : Moment) (p q : Got) (read went : Told (List ℕ)) (gain : List ℕ) (out : Mark) → stages_in b.core ≡ stages_in a.core
     → ComesIn a.entrance b.entrance m₀ m₁ read → GoesOut a.exit b.exit m₀ m₁ p q went gain out → IsHead a → IsHead b
 head-stays a b m₀ m₁ p q read went gain out stages from into head =
     record {
@@ -46,7 +46,7 @@ head-stays a b m₀ m₁ p q read went gain out stages from into head =
       bare = no-stages a.core.stages.items b.core.stages.items stages head.bare;
     }
 
-head-was : (a b : Node) (m₀ m₁ : Moment) (p q : List ℕ → Type 0) (read went : Told (List ℕ)) (gain : List ℕ) (out : Mark) → stages_in b.core ≡ stages_in a.core
+head-was : (a b : Node) (m₀ m₁ : Moment) (p q : Got) (read went : Told (List ℕ)) (gain : List ℕ) (out : Mark) → stages_in b.core ≡ stages_in a.core
     → ComesIn a.entrance b.entrance m₀ m₁ read → GoesOut a.exit b.exit m₀ m₁ p q went gain out → IsHead b → IsHead a
 head-was a b m₀ m₁ p q read went gain out stages from into head =
     record {
@@ -67,7 +67,7 @@ core-then a b c ms ns first second =
     }
 
 -- one after another
-pub went-then : (a b c : Node) (m₀ m₁ m₂ : Moment) (p q r : List ℕ → Type 0) → Went a b m₀ m₁ p q → Went b c m₁ m₂ q r → Went a c m₀ m₂ p r
+pub went-then : (a b c : Node) (m₀ m₁ m₂ : Moment) (p q r : Got) → Went a b m₀ m₁ p q → Went b c m₁ m₂ q r → Went a c m₀ m₂ p r
 went-then a b c m₀ m₁ m₂ p q r first second =
     record {
       read = then_told first.read second.read;
@@ -162,7 +162,7 @@ out-goes a b went e f g =
     (subst (λ (o : Told (List ℕ)). Goes (machines (stages_in a.core)) nothing_yet (parts a) (lying a) (parts b) (then_told went o)) (sym (held-is b f)) g)
 
 -- nothing was read or written, and what lies in the node went on
-pub went-quietly : (a b : Node) (m : Moment) (p q : List ℕ → Type 0) → Gains p q [] → Stays a b → SameCounts a b
+pub went-quietly : (a b : Node) (m : Moment) (p q : Got) → Gains p q [] → Stays a b → SameCounts a b
     → Goes (machines (stages_in a.core)) nothing_yet (parts a) (lying a) (parts b) (lying b) → Went a b m m p q
 went-quietly a b m p q gained stays same goes =
     let taken = same.taken in
@@ -196,14 +196,18 @@ as-many a = length-machines (stages_in a.core) ∙ sym (length-works a.core.stag
 pub works-count : (shape : Shape) (a : Node) → stages_in a.core ≡ shape.stages → length (works_in a.core) ≡ count_in shape
 works-count shape a stages = length-works a.core.stages.items ∙ ap length stages
 
-pub went-same : (a : Node) (m : Moment) (p : List ℕ → Type 0) → Went a a m m p p
-went-same a m p =
-    went-quietly a a m p p (Gains-nothing p) (λ why e. refl)
+-- nothing was done, but that an output may have written what it held
+pub went-untouched : (a : Node) (m : Moment) (p q : Got) → Gains p q [] → Went a a m m p q
+went-untouched a m p q gained =
+    went-quietly a a m p q gained (λ why e. refl)
     (record { taken = refl; ahead = λ e. refl; input = refl; output = refl; abort = refl; stages = refl; source = refl; sink = refl; most = refl; pipe = refl; pipes = refl; first = refl; above = refl; below = refl; broken = refl })
     (goes_rests (machines (stages_in a.core)) 0 (works_in a.core) (lies_in a) (lies_in a) (as-many a) (λ j h k. short_refl (lies_in a j)))
 
+pub went-same : (a : Node) (m : Moment) (p : Got) → Went a a m m p p
+went-same a m p = went-untouched a m p p (Gains-nothing p)
+
 -- only the realm changed, and of what lay at each place nothing is lost unseen
-pub went-rests : (shape : Shape) (a b : Node) (m : Moment) (p q : List ℕ → Type 0) → Gains p q [] → Stays a b → stages_in a.core ≡ shape.stages → OnlyRealm a b
+pub went-rests : (shape : Shape) (a b : Node) (m : Moment) (p q : Got) → Gains p q [] → Stays a b → stages_in a.core ≡ shape.stages → OnlyRealm a b
     → ((k : ℕ) → k ≤ count_in shape → IsShortOf (lies_in b k) (lies_in a k)) → Went a b m m p q
 went-rests shape a b m p q gained stays stages only short =
     went-quietly a b m p q gained stays (only-same a b only)
@@ -221,7 +225,7 @@ flows-on ss a b came out read went flows goes =
     (goes_then ms came read (fresh ms) nothing_yet (parts a) (then_told out (held a)) (parts b) (then_told out (then_told went (held b))) flows
     (goes_behind ms read (parts a) (held a) (parts b) (then_told went (held b)) out goes))
 
-pub fed-went : (ss : List Stage) (a b : Node) (m₀ m₁ : Moment) (p q : List ℕ → Type 0) → IsFed ss a → stages_in a.core ≡ ss → Went a b m₀ m₁ p q → IsFed ss b
+pub fed-went : (ss : List Stage) (a b : Node) (m₀ m₁ : Moment) (p q : Got) → IsFed ss a → stages_in a.core ≡ ss → Went a b m₀ m₁ p q → IsFed ss b
 fed-went ss a b m₀ m₁ p q fed stages went =
     let goes : Goes (machines ss) went.read (parts a) (held a) (parts b) (then_told went.went (held b)) =
     subst (λ q. Goes (machines q) went.read (parts a) (held a) (parts b) (then_told went.went (held b))) stages went.core.moves.0.goes in

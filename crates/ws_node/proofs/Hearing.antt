@@ -20,6 +20,7 @@ use Rattle.ws_node.specs.Shape.{Shape, count_in, hears_in}
 use Rattle.ws_flow.specs.Steps.{parts_at}
 use Rattle.ws_flow.specs.Told.{Open, Told, told, then_told, IsShortOf}
 use Rattle.ws_flow.proofs.Told.{before_front, before_of_short, short_right}
+use Rattle.ws_io.specs.Gain.{Got}
 use Rattle.ws_io.specs.Feed.{Feed}
 use Rattle.ws_io.specs.Moment.{Moment}
 use Rattle.ws_io.proofs.Flow.{Gains-nothing}
@@ -175,7 +176,7 @@ module _ (shape : Shape) (k : ℕ) (id : HostId) (i : StreamId) (x : Exit) (sink
   no-close : hears_in shape k (Host id (Close i)) ≡ silence
   no-close = rw ear-other refl
 
-module _ (rf : ℕ) (feed : Option Feed) (p q : List ℕ → Type 0) (shape : Shape) (past : List Entry) (a : Node) (realm : SeenRealm) (b : Node) (old new : Shown) (since : Since shape past a)
+module _ (rf : ℕ) (feed : Option Feed) (p q : Got) (shape : Shape) (past : List Entry) (a : Node) (realm : SeenRealm) (b : Node) (old new : Shown) (since : Since shape past a)
     (goes : a.core.stopped ≡ None) where
   abbrev was : Node
   was = with_realm realm a
@@ -260,7 +261,7 @@ module _ (rf : ℕ) (feed : Option Feed) (p q : List ℕ → Type 0) (shape : Sh
   heard-of (Signal i r) event h = told-only (record { 0 = 0 }) (Signal i r) tt event (λ k less. refl) h.0 h.1
   heard-of (Post c m) event h = rw h.1.shown (waits shape past a realm b c m (shows rf feed old) p q h.1.gained since goes event h.0)
 
-pub hears : (rf : ℕ) (feed : Option Feed) (p q : List ℕ → Type 0) (shape : Shape) (past : List Entry) (a : Node) (realm : SeenRealm) (e : Event) (b : Node) (old new : Shown)
+pub hears : (rf : ℕ) (feed : Option Feed) (p q : Got) (shape : Shape) (past : List Entry) (a : Node) (realm : SeenRealm) (e : Event) (b : Node) (old new : Shown)
     → Since shape past a → a.core.stopped ≡ None → first_event a.core.realm.slots.promises.events ≡ Some e → realm.slots ≡ after_event a.core.realm.slots
     → Hears e (with_realm realm a) b old new p q → Handled shape a b (shows rf feed old) (shows rf feed new) p q
 hears rf feed p q shape past a realm e b old new since goes first slots h =
@@ -272,7 +273,7 @@ stopped-same : (stopped : Option Why) (x y t : Told (List ℕ)) → IsShortOf x 
 stopped-same None x y t h = short_right x y t h
 stopped-same (Some why) x y t h = ([], refl)
 
-pub hears-none : (shape : Shape) (past : List Entry) (a : Node) (realm : SeenRealm) (m : Moment) (p : List ℕ → Type 0) → Since shape past a → a.core.stopped ≡ None
+pub hears-none : (shape : Shape) (past : List Entry) (a : Node) (realm : SeenRealm) (m : Moment) (p : Got) → Since shape past a → a.core.stopped ≡ None
     → first_event a.core.realm.slots.promises.events ≡ None → realm.slots ≡ after_event a.core.realm.slots → Handled shape a (with_realm realm a) m m p p
 hears-none shape past a realm m p since goes first slots =
     let after = since-hears-none shape past a realm since.led first slots in

@@ -8,7 +8,7 @@ use Rattle.ws_flow.specs.declared.plan.Placed.{Placed}
 use Rattle.ws_flow.specs.declared.plan.Plan.{Plan}
 use Rattle.ws_flow.proofs.Lengths.{accepted}
 use Rattle.ws_flow.specs.Told.{Mark, Told}
-use Rattle.ws_io.specs.Gain.{Gains}
+use Rattle.ws_io.specs.Gain.{Gains, Got}
 use Rattle.ws_io.specs.Moment.{Moment}
 use Rattle.ws_chain_laws.specs.Chain.{Origin, FromChunks, FromBytes, FromPort, Target, ToSink, ToPort}
 use Rattle.ws_node.specs.declared.node.Entrance.{Entrance}
@@ -44,12 +44,12 @@ above-some n d e = fed d.shape.origin n.entrance d.since.led.is_of.from e
 
 -- and stays so
 
-pub kinds-stay : (a b : Node) (m₀ m₁ : Moment) (p q : List ℕ → Type 0) → Went a b m₀ m₁ p q
+pub kinds-stay : (a b : Node) (m₀ m₁ : Moment) (p q : Got) → Went a b m₀ m₁ p q
     → (is_edge b.entrance.input ≡ is_edge a.entrance.input) × (feeds_edge b.exit.output ≡ feeds_edge a.exit.output)
 kinds-stay a b m₀ m₁ p q w = (came-kind a.entrance b.entrance w.read m₀ m₁ w.from, went-kind a.exit b.exit w.went w.gain w.out m₀ m₁ p q w.into)
 
 -- so one without edges has none
-pub alone-stays : (a b : Node) (m₀ m₁ : Moment) (p q : List ℕ → Type 0) → Went a b m₀ m₁ p q → IsAlone a → IsAlone b
+pub alone-stays : (a b : Node) (m₀ m₁ : Moment) (p q : Got) → Went a b m₀ m₁ p q → IsAlone a → IsAlone b
 alone-stays a b m₀ m₁ p q w alone = record {
   input = (kinds-stay a b m₀ m₁ p q w).0 ∙ alone.input;
   output = (kinds-stay a b m₀ m₁ p q w).1 ∙ alone.output;
@@ -64,18 +64,18 @@ alone-stays a b m₀ m₁ p q w alone = record {
   no-other (ToOutput e on) = on.below ∙ alone.below
   no-other (ToEdge e on) = absurd (let f = alone.output in cc)
 
-pub head-goes : (a b : Node) (m₀ m₁ : Moment) (p q : List ℕ → Type 0) → Went a b m₀ m₁ p q → IsHead a → IsHead b
+pub head-goes : (a b : Node) (m₀ m₁ : Moment) (p q : Got) → Went a b m₀ m₁ p q → IsHead a → IsHead b
 head-goes a b m₀ m₁ p q w head = head-stays a b m₀ m₁ p q w.read w.went w.gain w.out w.core.moves.0.stages w.from w.into head
 
 -- where no output is there, any will do
 
 any-gains : (gain : List ℕ) → Gains any_bytes any_bytes gain
-any-gains gain = record { grows = λ xs h. tt }
+any-gains gain = record { went = gain; grows = λ xs h. tt; behind = sym (append-nil gain) }
 
-goes-any : (a b : Exit) (m₀ m₁ : Moment) (p q : List ℕ → Type 0) (went : Told (List ℕ)) (gain : List ℕ) (out : Mark) → GoesOut a b m₀ m₁ p q went gain out
+goes-any : (a b : Exit) (m₀ m₁ : Moment) (p q : Got) (went : Told (List ℕ)) (gain : List ℕ) (out : Mark) → GoesOut a b m₀ m₁ p q went gain out
     → GoesOut a b m₀ m₁ any_bytes any_bytes went gain out
 goes-any a b m₀ m₁ p q went gain out (ToOutput e g) =
-    ToOutput e (record { gained = any-gains gain; written = g.written; output = g.output; abort = g.abort; sink = g.sink; below = g.below })
+    ToOutput e (record { gained = any-gains gain; written = g.written; output = g.output; abort = g.abort; emptied = λ e f. refl; sink = g.sink; below = g.below })
 goes-any a b m₀ m₁ p q went gain out (ToEdge e g) =
     ToEdge e (record {
       taken = g.taken;
@@ -90,7 +90,7 @@ goes-any a b m₀ m₁ p q went gain out (ToEdge e g) =
       sink = g.sink;
     })
 
-pub went-any : (a b : Node) (m₀ m₁ : Moment) (p q : List ℕ → Type 0) → Went a b m₀ m₁ p q → Went a b m₀ m₁ any_bytes any_bytes
+pub went-any : (a b : Node) (m₀ m₁ : Moment) (p q : Got) → Went a b m₀ m₁ p q → Went a b m₀ m₁ any_bytes any_bytes
 went-any a b m₀ m₁ p q w = record {
   read = w.read;
   went = w.went;
@@ -147,10 +147,10 @@ each-set (x ∷ xs) [] i d y e g = absurd e
 each-set (x ∷ xs) (z ∷ ys) zero d y (e, es) g = (went-then x z y of_neither of_neither of_neither any_bytes any_bytes any_bytes e g, es)
 each-set (x ∷ xs) (z ∷ ys) (suc i) d y (e, es) g = (e, each-set xs ys i d y es g)
 
-pub all-same : (ns : Nodes) (m : Moment) (p : List ℕ → Type 0) → AllGo ns ns m m p p
+pub all-same : (ns : Nodes) (m : Moment) (p : Got) → AllGo ns ns m m p p
 all-same ns m p = record { head = went-same ns.head (of_input m) any_bytes; middles = each-same ns.middles; tail = went-same ns.tail (of_output m) p }
 
-pub all-then : (a b c : Nodes) (m₀ m₁ m₂ : Moment) (p q r : List ℕ → Type 0) → AllGo a b m₀ m₁ p q → AllGo b c m₁ m₂ q r → AllGo a c m₀ m₂ p r
+pub all-then : (a b c : Nodes) (m₀ m₁ m₂ : Moment) (p q r : Got) → AllGo a b m₀ m₁ p q → AllGo b c m₁ m₂ q r → AllGo a c m₀ m₂ p r
 all-then a b c m₀ m₁ m₂ p q r g h = record {
   head = went-then a.head b.head c.head (of_input m₀) (of_input m₁) (of_input m₂) any_bytes any_bytes any_bytes g.head h.head;
   middles = each-then a.middles b.middles c.middles g.middles h.middles;
@@ -188,10 +188,10 @@ joined-at-later (Some e) (Some e') (Some f) None r s j = absurd (cc)
 joined-at-later (Some e) b None d r s j = absurd j
 joined-at-later None b c d r s j = absurd j
 
-pub below-rows : (a b : Node) (m₀ m₁ : Moment) (p q : List ℕ → Type 0) → feeds_edge a.exit.output ≡ true → Went a b m₀ m₁ p q → rows_at b.exit.below ≡ rows_at a.exit.below
+pub below-rows : (a b : Node) (m₀ m₁ : Moment) (p q : Got) → feeds_edge a.exit.output ≡ true → Went a b m₀ m₁ p q → rows_at b.exit.below ≡ rows_at a.exit.below
 below-rows a b m₀ m₁ p q e w = (to-edge a.exit b.exit m₀ m₁ p q w.went w.gain w.out e w.into).end.rows
 
-pub above-rows : (a b : Node) (m₀ m₁ : Moment) (p q : List ℕ → Type 0) → is_edge a.entrance.input ≡ true → Went a b m₀ m₁ p q
+pub above-rows : (a b : Node) (m₀ m₁ : Moment) (p q : Got) → is_edge a.entrance.input ≡ true → Went a b m₀ m₁ p q
     → rows_at b.entrance.above ≡ rows_at a.entrance.above
 above-rows a b m₀ m₁ p q e w = (by-edge a.entrance b.entrance m₀ m₁ w.read e w.from).end.rows
 
@@ -206,7 +206,7 @@ joined-later w plan upper upper' lower lower' (x ∷ xs) (y ∷ ys) r s (n, ns) 
 )
 
 -- the edges of a run are joined at its end as they were at its beginning
-pub joined-at-end : (plan : Plan) (a b : Nodes) (m₀ m₁ : Moment) (p q : List ℕ → Type 0) → AreNew plan a → AllGo a b m₀ m₁ p q
+pub joined-at-end : (plan : Plan) (a b : Nodes) (m₀ m₁ : Moment) (p q : Got) → AreNew plan a → AllGo a b m₀ m₁ p q
     → AreJoined b.head.exit.below b.middles b.tail.entrance.above
 joined-at-end plan a b m₀ m₁ p q n g =
     joined-later 1 plan a.head.exit.below b.head.exit.below a.tail.entrance.above b.tail.entrance.above a.middles b.middles

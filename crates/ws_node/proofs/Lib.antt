@@ -17,6 +17,7 @@ pub mod Credit
 pub mod Delivering
 pub mod EndSteps
 pub mod Ending
+pub mod Emptying
 pub mod Entries
 pub mod Fair
 pub mod Fairly
@@ -63,7 +64,6 @@ pub mod StillOpen
 pub mod Taking
 pub mod TakingAbove
 pub mod TakingBelow
-pub mod Teeless
 pub mod Telling
 pub mod Tidying
 pub mod Turning

@@ -56,7 +56,7 @@ use Rattle.ws_node.specs.Shares.{abort_in, shape_with}
 use Rattle.ws_node.proofs.Nearing.{near-unused}
 use Rattle.ws_node.proofs.Ran.{few-streams}
 use Rattle.ws_node.proofs.Sharing.{shared-fit}
-use Rattle.ws_node.proofs.Teeless.{opened-teeless}
+use Rattle.ws_chain_laws.proofs.Teeless.{past-teeless}
 
 -- the stages at their beginning
 
@@ -316,7 +316,7 @@ module _ (shape : Shape) (first : ℕ) (abort : Option ℤ) (n : Node) (fit : Ar
     slots = ap trim f.slots;
     wired = subst (IsChain o t k) (sym slots-are ∙ f.slots) begins.chain;
     quiet = past-none o t k signalled [] few refl;
-    teeless = subst (λ (s : Slots). s.tees ≡ []) (sym f.slots) (opened-teeless o t k signalled);
+    teeless = subst (λ (s : Slots). s.tees ≡ []) (sym f.slots) (past-teeless o t k signalled [] tt);
   }
 
   nothing-behind : (j : ℕ) → j ≤ k → behind_at j n.core.realm.slots ≡ silence

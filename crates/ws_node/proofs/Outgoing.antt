@@ -7,8 +7,8 @@ use Rattle.ws_flow.proofs.Ends.{told_append}
 use Rattle.ws_flow.specs.Rows.{told_by}
 use Rattle.ws_joined_laws.specs.Ends.{StopsIn}
 use Rattle.ws_flow.proofs.Told.{short_trans, short_same, short_as, short_left, short_right}
-use Rattle.ws_io.proofs.Flow.{Gains-then, KeepsTold-same, KeepsTold-then, Becomes-then}
-use Rattle.ws_io.specs.Gain.{Gains, KeepsTold, Becomes}
+use Rattle.ws_io.proofs.Flow.{Gains-then, IsEmptied-kept, KeepsTold-same, KeepsTold-then, Becomes-then}
+use Rattle.ws_io.specs.Gain.{Gains, KeepsTold, Becomes, Got, IsEmptied}
 use Rattle.ws_io.specs.Moment.{Moment}
 use Rattle.ws_node.specs.declared.node.Abort.{Abort}
 use Rattle.ws_node.specs.declared.node.Exit.{Exit}
@@ -279,7 +279,7 @@ abort-then (Some x) (Some y) None v w g h b c stays whole first second = absurd 
 abort-then (Some x) (Some y) (Some z) v w g h b c stays whole (e, first) (f, second) =
     (f ∙ e, near-then x.left y.left z.left v w g h b c stays whole first second)
 
-posts-then : (a b c : Exit) (x y : Told (List ℕ)) (g h : List ℕ) (o n : Mark) (m₀ m₁ m₂ : Moment) (p q r : List ℕ → Type 0) → PostsOn a b m₀ m₁ p q x g o → PostsOn b c m₁ m₂ q r y h n
+posts-then : (a b c : Exit) (x y : Told (List ℕ)) (g h : List ℕ) (o n : Mark) (m₀ m₁ m₂ : Moment) (p q r : Got) → PostsOn a b m₀ m₁ p q x g o → PostsOn b c m₁ m₂ q r y h n
     → PostsOn a c m₀ m₂ p r (then_told x y) (g ++ h) (mark_then o n)
 posts-then a b c x y g h o n m₀ m₁ m₂ p q r first second =
     record {
@@ -300,11 +300,21 @@ posts-then a b c x y g h o n m₀ m₁ m₂ p q r first second =
       sink = second.sink ∙ first.sink;
     }
 
-pub went-kind : (a b : Exit) (x : Told (List ℕ)) (g : List ℕ) (o : Mark) (m₀ m₁ : Moment) (p q : List ℕ → Type 0) → GoesOut a b m₀ m₁ p q x g o → feeds_edge b.output ≡ feeds_edge a.output
+pub went-kind : (a b : Exit) (x : Told (List ℕ)) (g : List ℕ) (o : Mark) (m₀ m₁ : Moment) (p q : Got) → GoesOut a b m₀ m₁ p q x g o → feeds_edge b.output ≡ feeds_edge a.output
 went-kind a b x g o m₀ m₁ p q (ToOutput e to) = let k = output-kind a.output b.output g o m₀ m₁ to.output in k.1 ∙ sym k.0
 went-kind a b x g o m₀ m₁ p q (ToEdge e on) = ap (λ (z : Output). feeds_edge z) on.output
 
-pub into-then : (a b c : Exit) (x y : Told (List ℕ)) (g h : List ℕ) (o n : Mark) (m₀ m₁ m₂ : Moment) (p q r : List ℕ → Type 0) → ToGoes a b m₀ m₁ p q x g o → ToGoes b c m₁ m₂ q r y h n
+-- what was written of an output by then, and then was finished
+emptied-then : (a b c : Output) (g h : List ℕ) (o n : Mark) (m₀ m₁ m₂ : Moment) (q r : Got) → OutputGoes b c h n m₁ m₂ → (a ≡ output.Open → b ≡ output.Finished → IsEmptied q)
+    → (b ≡ output.Open → c ≡ output.Finished → IsEmptied r) → Gains q r h → a ≡ output.Open → c ≡ output.Finished → IsEmptied r
+emptied-then a output.Open c g h o n m₀ m₁ m₂ q r goes first second gained e f = second refl f
+emptied-then a output.Finished c g h o n m₀ m₁ m₂ q r (same, l) first second gained e f =
+    IsEmptied-kept q r (subst (λ (xs : List ℕ). Gains q r xs) l.none gained) (first e refl)
+emptied-then a output.Failed c g h o n m₀ m₁ m₂ q r (same, l) first second gained e f = absurd (let k : output.Failed ≡ output.Finished = sym same ∙ f in cc)
+emptied-then a output.Aborted c g h o n m₀ m₁ m₂ q r (same, l) first second gained e f = absurd (let k : output.Aborted ≡ output.Finished = sym same ∙ f in cc)
+emptied-then a output.Edge c g h o n m₀ m₁ m₂ q r goes first second gained e f = absurd goes
+
+pub into-then : (a b c : Exit) (x y : Told (List ℕ)) (g h : List ℕ) (o n : Mark) (m₀ m₁ m₂ : Moment) (p q r : Got) → ToGoes a b m₀ m₁ p q x g o → ToGoes b c m₁ m₂ q r y h n
     → ToGoes a c m₀ m₂ p r (then_told x y) (g ++ h) (mark_then o n)
 into-then a b c x y g h o n m₀ m₁ m₂ p q r first second =
     let writes = output-then a.output b.output c.output g h o n m₀ m₁ m₂ first.output second.output in
@@ -318,11 +328,12 @@ into-then a b c x y g h o n m₀ m₁ m₂ p q r first second =
       abort =
           abort-then a.abort b.abort c.abort x y g h b.output c.output (failed-stays b.output c.output h n m₁ m₂ second.output)
           (wrote-all a.output b.output c.output g h o n x m₀ m₁ m₂ first.output second.output first.written) first.abort second.abort;
+      emptied = emptied-then a.output b.output c.output g h o n m₀ m₁ m₂ q r second.output first.emptied second.emptied second.gained;
       sink = second.sink ∙ first.sink;
       below = second.below ∙ first.below;
     }
 
-pub outs-then : (a b c : Exit) (x y : Told (List ℕ)) (g h : List ℕ) (o n : Mark) (m₀ m₁ m₂ : Moment) (p q r : List ℕ → Type 0) → GoesOut a b m₀ m₁ p q x g o → GoesOut b c m₁ m₂ q r y h n
+pub outs-then : (a b c : Exit) (x y : Told (List ℕ)) (g h : List ℕ) (o n : Mark) (m₀ m₁ m₂ : Moment) (p q r : Got) → GoesOut a b m₀ m₁ p q x g o → GoesOut b c m₁ m₂ q r y h n
     → GoesOut a c m₀ m₂ p r (then_told x y) (g ++ h) (mark_then o n)
 outs-then a b c x y g h o n m₀ m₁ m₂ p q r (ToOutput e first) (ToOutput f second) = ToOutput e (into-then a b c x y g h o n m₀ m₁ m₂ p q r first second)
 outs-then a b c x y g h o n m₀ m₁ m₂ p q r (ToEdge e first) (ToEdge f second) = ToEdge e (posts-then a b c x y g h o n m₀ m₁ m₂ p q r first second)
@@ -330,14 +341,14 @@ outs-then a b c x y g h o n m₀ m₁ m₂ p q r (ToOutput e first) (ToEdge f se
 outs-then a b c x y g h o n m₀ m₁ m₂ p q r (ToEdge e first) (ToOutput f second) = absurd (let k : feeds_edge b.output ≡ feeds_edge a.output = ap (λ (z : Output). feeds_edge z) first.output in cc)
 
 -- where more was written, all that went out before was
-pub outs-whole : (a b c : Exit) (x y : Told (List ℕ)) (g h : List ℕ) (o n : Mark) (m₀ m₁ m₂ : Moment) (p q r : List ℕ → Type 0) → GoesOut a b m₀ m₁ p q x g o → GoesOut b c m₁ m₂ q r y h n
+pub outs-whole : (a b c : Exit) (x y : Told (List ℕ)) (g h : List ℕ) (o n : Mark) (m₀ m₁ m₂ : Moment) (p q r : Got) → GoesOut a b m₀ m₁ p q x g o → GoesOut b c m₁ m₂ q r y h n
     → 0 < length h → (concat x.items ≡ g) × (x.mark ≡ MayCome)
 outs-whole a b c x y g h o n m₀ m₁ m₂ p q r (ToOutput e first) (ToOutput f second) some = wrote-all a.output b.output c.output g h o n x m₀ m₁ m₂ first.output second.output first.written some
 outs-whole a b c x y g h o n m₀ m₁ m₂ p q r (ToOutput e first) (ToEdge f second) some = absurd (let none = ap length second.alone.none in omega arith)
 outs-whole a b c x y g h o n m₀ m₁ m₂ p q r (ToEdge e first) (ToEdge f second) some = absurd (let none = ap length second.alone.none in omega arith)
 outs-whole a b c x y g h o n m₀ m₁ m₂ p q r (ToEdge e first) (ToOutput f second) some = absurd (let k : feeds_edge b.output ≡ feeds_edge a.output = ap (λ (z : Output). feeds_edge z) first.output in cc)
 
-pub goes-still : (a b : Exit) (m₀ m₁ : Moment) (p q : List ℕ → Type 0) → m₁.write_faults ≡ m₀.write_faults → m₁.finished ≡ m₀.finished → Gains p q [] → b.output ≡ a.output → b.abort ≡ a.abort → b.sink ≡ a.sink
+pub goes-still : (a b : Exit) (m₀ m₁ : Moment) (p q : Got) → m₁.write_faults ≡ m₀.write_faults → m₁.finished ≡ m₀.finished → Gains p q [] → b.output ≡ a.output → b.abort ≡ a.abort → b.sink ≡ a.sink
     → b.below ≡ a.below → GoesOut a b m₀ m₁ p q nothing_yet [] MayCome
 goes-still a b m₀ m₁ p q calm finished gained same abort sink below = by (feeds_edge a.output) refl where
   by : (t : Bool) → feeds_edge a.output ≡ t → GoesOut a b m₀ m₁ p q nothing_yet [] MayCome
@@ -348,6 +359,7 @@ goes-still a b m₀ m₁ p q calm finished gained same abort sink below = by (fe
         written = (refl, refl);
         output = subst (λ x. OutputGoes a.output x [] MayCome m₀ m₁) (sym same) (output-still a.output m₀ m₁ calm finished e);
         abort = subst (λ x. AbortGoes a.abort x [] [] b.output) (sym abort) (abort-same a.abort [] b.output);
+        emptied = λ e f. absurd (let g : output.Open ≡ output.Finished = sym e ∙ (sym same ∙ f) in cc);
         sink = sink;
         below = below;
       })
@@ -366,16 +378,16 @@ goes-still a b m₀ m₁ p q calm finished gained same abort sink below = by (fe
         sink = sink;
       })
 
-pub goes-quietly : (a b : Exit) (m : Moment) (p q : List ℕ → Type 0) → Gains p q [] → b.output ≡ a.output → b.abort ≡ a.abort → b.sink ≡ a.sink → b.below ≡ a.below
+pub goes-quietly : (a b : Exit) (m : Moment) (p q : Got) → Gains p q [] → b.output ≡ a.output → b.abort ≡ a.abort → b.sink ≡ a.sink → b.below ≡ a.below
     → GoesOut a b m m p q nothing_yet [] MayCome
 goes-quietly a b m p q gained same abort sink below = goes-still a b m m p q refl refl gained same abort sink below
 
-pub fed-went-by : (a b : Exit) (m₀ m₁ : Moment) (p q : List ℕ → Type 0) (x y : Told (List ℕ)) (g : List ℕ) (o : Mark) → GoesOut a b m₀ m₁ p q y g o → WentBy a x → WentBy b (then_told x y)
+pub fed-went-by : (a b : Exit) (m₀ m₁ : Moment) (p q : Got) (x y : Told (List ℕ)) (g : List ℕ) (o : Mark) → GoesOut a b m₀ m₁ p q y g o → WentBy a x → WentBy b (then_told x y)
 fed-went-by a b m₀ m₁ p q x y g o (ToOutput e to) went now = absurd (let k : feeds_edge b.output ≡ false = (output-kind a.output b.output g o m₀ m₁ to.output).1 in cc)
 fed-went-by a b m₀ m₁ p q x y g o (ToEdge e on) went now =
     told-then x y _ _ (went e) on.went_is ∙ (sym (told_append (sent_at a.below) on.posted) ∙ ap told_by (sym on.end.sent))
 
-pub fed-open : (a b : Exit) (m₀ m₁ : Moment) (p q : List ℕ → Type 0) (x y : Told (List ℕ)) (g : List ℕ) (o : Mark) → GoesOut a b m₀ m₁ p q y g o → (a.output ≡ output.Open → x.mark ≡ MayCome)
+pub fed-open : (a b : Exit) (m₀ m₁ : Moment) (p q : Got) (x y : Told (List ℕ)) (g : List ℕ) (o : Mark) → GoesOut a b m₀ m₁ p q y g o → (a.output ≡ output.Open → x.mark ≡ MayCome)
     → b.output ≡ output.Open → (then_told x y).mark ≡ MayCome
 fed-open a b m₀ m₁ p q x y g o (ToOutput e to) was now = still-open a.output b.output g o x y m₀ m₁ to.output to.written was now
 fed-open a b m₀ m₁ p q x y g o (ToEdge e on) was now =

@@ -13,6 +13,7 @@ use Rattle.ws_flow.specs.Parts.{Goes}
 use Rattle.ws_flow.specs.Rows.{told_by}
 use Rattle.ws_flow.specs.Stages.{machines}
 use Rattle.ws_flow.specs.Told.{Mark, Open as MayCome, Told, then_told}
+use Rattle.ws_io.specs.Gain.{Got}
 use Rattle.ws_io.proofs.Flow.{Gains-nothing, Fed-nothing}
 use Rattle.ws_io.specs.Moment.{Moment}
 use Rattle.ws_port.specs.Ends.{Posted, Taken}
@@ -147,7 +148,7 @@ ends-same-given shape past n q r g h s = record {
 }
 
 -- How a node goes on, whether its realm has stopped or not
-pub record GoesBy (a b : Node) (old new : Moment) (p q : List ℕ → Type 0) : Type 0 where
+pub record GoesBy (a b : Node) (old new : Moment) (p q : Got) : Type 0 where
   pub read : Told (List ℕ)
   pub went : Told (List ℕ)
   pub gain : List ℕ
@@ -160,10 +161,10 @@ pub record GoesBy (a b : Node) (old new : Moment) (p q : List ℕ → Type 0) : 
   pub near : IsHead a → (pieces : ℕ) → IsNear pieces a → IsNear (pieces + length read.items) b
   pub short : is_edge a.entrance.input ≡ false → 0 < length gain → EndsShort went.items gain
 
-pub goes-of : (a b : Node) (old new : Moment) (p q : List ℕ → Type 0) → Went a b old new p q → GoesBy a b old new p q
+pub goes-of : (a b : Node) (old new : Moment) (p q : Got) → Went a b old new p q → GoesBy a b old new p q
 goes-of a b old new p q w = record { read = w.read; went = w.went; gain = w.gain; out = w.out; core = w.core; from = w.from; into = w.into; ahead = w.ahead; near = w.near; short = w.short }
 
-pub went-of : (a b : Node) (old new : Moment) (p q : List ℕ → Type 0) → a.core.stopped ≡ None → GoesBy a b old new p q → Went a b old new p q
+pub went-of : (a b : Node) (old new : Moment) (p q : Got) → a.core.stopped ≡ None → GoesBy a b old new p q → Went a b old new p q
 went-of a b old new p q goes w = record {
   read = w.read;
   went = w.went;
@@ -216,18 +217,19 @@ from-posts FromChunks a q posted m f g = absurd f
 
 -- what is posted goes out
 
-into-sink : (a : Exit) (r : Option AtEdge) (m : Moment) (p : List ℕ → Type 0) → feeds_edge a.output ≡ false → r ≡ a.below → GoesOut a (record a { below = r }) m m p p nothing_yet [] MayCome
+into-sink : (a : Exit) (r : Option AtEdge) (m : Moment) (p : Got) → feeds_edge a.output ≡ false → r ≡ a.below → GoesOut a (record a { below = r }) m m p p nothing_yet [] MayCome
 into-sink a r m p off same =
     ToOutput off (record {
       gained = Gains-nothing p;
       written = (refl, refl);
       output = output-same a.output m off;
       abort = abort-same a.abort [] a.output;
+      emptied = λ e f. absurd (let g : output.Open ≡ output.Finished = sym e ∙ f in cc);
       sink = refl;
       below = same;
     })
 
-pub into-posts : (t : Target) (a : Exit) (r : Option AtEdge) (posted : List Message) (m : Moment) (p : List ℕ → Type 0) → FeedsAs t a → EndGrows a.below r [] posted
+pub into-posts : (t : Target) (a : Exit) (r : Option AtEdge) (posted : List Message) (m : Moment) (p : Got) → FeedsAs t a → EndGrows a.below r [] posted
     → GoesOut a (record a { below = r }) m m p p (told_by posted) [] MayCome
 into-posts ToSink a r posted m p (off, none) g =
     subst (λ ms. GoesOut a (record a { below = r }) m m p p (told_by ms) [] MayCome) (sym (none-posted a.below r posted none g)) (into-sink a r m p off (none-stays a.below r none g.rows))
@@ -265,7 +267,7 @@ pub waits-is : (ws posted rest : List Message) (t : Told (List ℕ)) → ws ≡ 
 waits-is ws posted rest t e =
     ap (λ ms. then_told (told_by ms) t) e ∙ (ap (λ x. then_told x t) (told_append posted rest) ∙ then_assoc (told_by posted) (told_by rest) t)
 
-pub goes-posts : (shape : Shape) (past : List Entry) (a : Node) (q r : Option AtEdge) (m : Moment) (p : List ℕ → Type 0) → Led shape past a → Grows a.entrance.above q → Grows a.exit.below r
+pub goes-posts : (shape : Shape) (past : List Entry) (a : Node) (q r : Option AtEdge) (m : Moment) (p : Got) → Led shape past a → Grows a.entrance.above q → Grows a.exit.below r
     → GoesBy a (with_ends q r a) m m p p
 goes-posts shape past a q r m p s g h =
     record {
@@ -282,7 +284,7 @@ goes-posts shape past a q r m p s g h =
     }
 
 -- the node is handled so
-pub ends-handled : (shape : Shape) (past : List Entry) (a : Node) (q r : Option AtEdge) (m : Moment) (p : List ℕ → Type 0) → a.core.stopped ≡ None → Since shape past a
+pub ends-handled : (shape : Shape) (past : List Entry) (a : Node) (q r : Option AtEdge) (m : Moment) (p : Got) → a.core.stopped ≡ None → Since shape past a
     → Grows a.entrance.above q → Grows a.exit.below r → Handled shape a (with_ends q r a) m m p p
 ends-handled shape past a q r m p goes s g h =
     record {
@@ -294,7 +296,7 @@ ends-handled shape past a q r m p goes s g h =
       ends = ends-same-given shape past a q r g h s.ends;
     }
 
-pub posts : (shape : Shape) (past : List Entry) (a b : Node) (t : Bool) (m : Moment) (p : List ℕ → Type 0) → a.core.stopped ≡ None → Since shape past a → PostsBoth t a b
+pub posts : (shape : Shape) (past : List Entry) (a b : Node) (t : Bool) (m : Moment) (p : Got) → a.core.stopped ≡ None → Since shape past a → PostsBoth t a b
     → Handled shape a b m m p p
 posts shape past a b t m p goes s h =
     subst (λ (n : Node). Handled shape a n m m p p) (sym h.is)

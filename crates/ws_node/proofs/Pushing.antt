@@ -13,7 +13,7 @@ use Rattle.ws_flow.specs.Parts.{AtWork, Over, Goes}
 use Rattle.ws_flow.specs.Stages.{machine, machines}
 use Rattle.ws_flow.specs.Told.{Open, Closed, Told, told, then_told, IsShortOf}
 use Rattle.ws_flow.proofs.Told.{short_trans, short_left}
-use Rattle.ws_io.specs.Gain.{Gains}
+use Rattle.ws_io.specs.Gain.{Gains, Got}
 use Rattle.ws_io.specs.Moment.{Moment}
 use Rattle.ws_stages.specs.State.{State, IsLive, kept_in, after_push}
 use Rattle.ws_steps.specs.declared.calls.Call.TheVariants.{Settle}
@@ -78,7 +78,7 @@ had-kept (x ∷ before) count n u us e = refl
 flush-same : (i s : StreamId) → Flush i ≡ Flush s → i ≡ s
 flush-same i s e = grind arith
 
-module _ (shape : Shape) (past : List Entry) (a : Node) (realm : SeenRealm) (id : HostId) (i : StreamId) (b : Node) (m : Moment) (p q : List ℕ → Type 0) (gained : Gains p q [])
+module _ (shape : Shape) (past : List Entry) (a : Node) (realm : SeenRealm) (id : HostId) (i : StreamId) (b : Node) (m : Moment) (p q : Got) (gained : Gains p q [])
     (since : Since shape past a) (goes : a.core.stopped ≡ None) where
   abbrev was : Node
   was = with_realm realm a

@@ -17,6 +17,7 @@ use Rattle.ws_flow.specs.Steps.{parts_at, behind_of}
 use Rattle.ws_flow.specs.Told.{Mark, Open as MayCome, Closed, Broken, Lost, Told, told, goes_on, then_told, IsShortOf}
 use Rattle.ws_flow.proofs.Steps.{goes_enters, goes_rests}
 use Rattle.ws_flow.proofs.Told.{short_trans, short_as, short_left, then_empty}
+use Rattle.ws_io.specs.Gain.{Got}
 use Rattle.ws_io.specs.Faults.{Rose}
 use Rattle.ws_io.specs.Feed.{Feed, Fed, KeepsEnd}
 use Rattle.ws_io.specs.Moment.{Moment, moment}
@@ -208,7 +209,7 @@ reads-goes shape a b read stages works first others =
       other zero more less = absurd (omega arith)
       other (suc j) more less = others j (let l = works-count shape a stages in omega arith)
 
-module _ (wf : ℕ) (finished : Option Bool) (p : List ℕ → Type 0) (shape : Shape) (past : List Entry) (a b : Node) (old new : Option Feed) (before now : ℕ) (s : Since shape past a) where
+module _ (wf : ℕ) (finished : Option Bool) (p : Got) (shape : Shape) (past : List Entry) (a b : Node) (old new : Option Feed) (before now : ℕ) (s : Since shape past a) where
   abbrev m₀ : Moment
   m₀ = moment before old wf finished
 
@@ -393,7 +394,7 @@ module _ (wf : ℕ) (finished : Option Bool) (p : List ℕ → Type 0) (shape : 
     once (Err failure) c gives takes settles_it = failed c gives.moved gives.before_end gives.rose takes settles_it
 
 -- there was no memory for a read
-wanted : (shape : Shape) (past : List Entry) (a : Node) (m : Moment) (p : List ℕ → Type 0) → Since shape past a → a.core.stopped ≡ None
+wanted : (shape : Shape) (past : List Entry) (a : Node) (m : Moment) (p : Got) → Since shape past a → a.core.stopped ≡ None
     → Handled shape a (record a { core = record a.core { stopped = Some NoMemory }; entrance = record a.entrance { asked = None } }) m m p p
 wanted shape past a m p s goes =
     let b : Node = record a { core = record a.core { stopped = Some NoMemory }; entrance = record a.entrance { asked = None } } in
@@ -409,7 +410,7 @@ wanted shape past a m p s goes =
     }
 
 -- a node reads its input, or doesn't
-pub reads : (wf : ℕ) (finished : Option Bool) (p : List ℕ → Type 0) (shape : Shape) (past : List Entry) (a b : Node) (old new : Option Feed) (before now : ℕ) → Since shape past a
+pub reads : (wf : ℕ) (finished : Option Bool) (p : Got) (shape : Shape) (past : List Entry) (a b : Node) (old new : Option Feed) (before now : ℕ) → Since shape past a
     → Reads a b old new before now → Handled shape a b (moment before old wf finished) (moment now new wf finished) p p
 reads wf finished p shape past a b old new before now s (ReadNot none same unread) =
     rw (same, unread.feed, unread.calm) (record { past = past; led = s.led; pushes = s.pushes; one = s.one; ends = s.ends; went = went-same a (moment before old wf finished) p })

@@ -25,11 +25,11 @@ use Rattle.ws_steps.specs.Histories.{taken_event}
 use Rattle.ws_steps.specs.PortHistory.{posted_by, posted_in}
 use Rattle.ws_steps.specs.Promises.{next_job}
 use Rattle.ws_steps.specs.Run.{Entry, Called, Worked, Heard, run, step, after_call, after_job, after_event, first_event, jobs_in_a_row, performed_in}
-use Rattle.ws_steps.specs.Slots.{Slots, empty, has_source}
+use Rattle.ws_steps.specs.Slots.{Slots, empty}
 use Rattle.ws_laws.proofs.Ages.{called-age, each_age_counts}
 use Rattle.ws_end_laws.specs.hosts.HostCalls.{called, settles_well, AllEvents, IsItsCall}
 use Rattle.ws_end_laws.proofs.hosts.Called.{each_event_is_its_call}
-use Rattle.ws_link_laws.specs.Link.{giver_at, silence}
+use Rattle.ws_link_laws.specs.Link.{silence}
 use Rattle.ws_chain_laws.specs.Chain.{transform_of, source_of, behind_at}
 use Rattle.ws_chain_laws.specs.Laws.{next_enters, next_heard}
 use Rattle.ws_chain_laws.specs.Outcomes.{JobBrings, Flushes, BringsNothing, BringsTheEnd}
@@ -221,8 +221,7 @@ dropped shape past a b m piece less led (Performed realm slots young goes is) no
     let at = link-at shape.origin shape.target (count_in shape) (run past empty) led.ran.wired k less in
     let shut : (behind_at k a.core.realm.slots).mark ≢ MayCome =
     behind-mark k a.core.realm.slots
-    (enqueue-shut (source_of k) (transform_of m) (Bytes piece) a.core.realm.slots (ap (has_source (source_of k)) led.ran.slots ∙ at.link.source)
-    (ap (giver_at (source_of k)) led.ran.slots ∙ at.gives)
+    (enqueue-shut (source_of k) (transform_of m) (Bytes piece) past a.core.realm.slots led.ran.slots at.link.source at.link.source_owner at.gives
     (λ f. not_done (record { going = goes; done = f; goes_on = ap (λ (n : Node). n.core.stopped) is ∙ goes }))) in
     let short : IsShortOf (behind_at k realm.slots) (behind_at k a.core.realm.slots) =
     short_as (behind_at k realm.slots) (then_told (behind_at k a.core.realm.slots) (enters_in shape k c)) _ (nothing-follows (behind_at k a.core.realm.slots) (enters_in shape k c) shut)

@@ -15,6 +15,7 @@ use Rattle.ws_flow.specs.Rows.{told_by}
 use Rattle.ws_flow.specs.Stages.{machines}
 use Rattle.ws_flow.specs.Steps.{parts_at}
 use Rattle.ws_flow.specs.Told.{Mark, Told, then_told}
+use Rattle.ws_io.specs.Gain.{Got}
 use Rattle.ws_io.specs.Moment.{Moment}
 use Rattle.ws_joined_laws.specs.Reasons.{reasons_in, Finds, HasCause, Passed as PassedOn, Own as OwnCause, IsOwn}
 use Rattle.ws_realm.specs.declared.realm.Why.{Why}
@@ -211,12 +212,12 @@ pub by-edge : (a b : Entrance) (m₀ m₁ : Moment) (came : Told (List ℕ)) →
 by-edge a b m₀ m₁ came e (ByEdge f g) = g
 by-edge a b m₀ m₁ came e (ByInput f g) = absurd (cc)
 
-pub to-output : (a b : Exit) (m₀ m₁ : Moment) (p q : List ℕ → Type 0) (went : Told (List ℕ)) (gain : List ℕ) (out : Mark) → feeds_edge a.output ≡ false
+pub to-output : (a b : Exit) (m₀ m₁ : Moment) (p q : Got) (went : Told (List ℕ)) (gain : List ℕ) (out : Mark) → feeds_edge a.output ≡ false
     → GoesOut a b m₀ m₁ p q went gain out → ToGoes a b m₀ m₁ p q went gain out
 to-output a b m₀ m₁ p q went gain out e (ToOutput f g) = g
 to-output a b m₀ m₁ p q went gain out e (ToEdge f g) = absurd (cc)
 
-pub to-edge : (a b : Exit) (m₀ m₁ : Moment) (p q : List ℕ → Type 0) (went : Told (List ℕ)) (gain : List ℕ) (out : Mark) → feeds_edge a.output ≡ true
+pub to-edge : (a b : Exit) (m₀ m₁ : Moment) (p q : Got) (went : Told (List ℕ)) (gain : List ℕ) (out : Mark) → feeds_edge a.output ≡ true
     → GoesOut a b m₀ m₁ p q went gain out → PostsOn a b m₀ m₁ p q went gain out
 to-edge a b m₀ m₁ p q went gain out e (ToEdge f g) = g
 to-edge a b m₀ m₁ p q went gain out e (ToOutput f g) = absurd (cc)
@@ -236,7 +237,7 @@ received-all a b taken posted u g = g.received ∙ ap (λ q. q ++ taken) (none-r
 pub sent-all : (a b : Option AtEdge) (taken posted : List Message) → IsUnused a → EndGrows a b taken posted → sent_at b ≡ posted
 sent-all a b taken posted u g = g.sent ∙ ap (λ q. q ++ posted) (none-sent a u)
 
-module _ (shape : Shape) (first : ℕ) (abort : Option ℤ) (a b : Node) (m₀ m₁ : Moment) (p q : List ℕ → Type 0) (new : IsNew shape first abort a) (w : Went a b m₀ m₁ p q) where
+module _ (shape : Shape) (first : ℕ) (abort : Option ℤ) (a b : Node) (m₀ m₁ : Moment) (p q : Got) (new : IsNew shape first abort a) (w : Went a b m₀ m₁ p q) where
   pub flows-since : Flows (machines shape.stages) w.read (parts b) (then_told w.went (held b))
   flows-since =
       subst (λ (o : Told (List ℕ)). Goes (machines shape.stages) w.read (fresh (machines shape.stages)) o (parts b) (then_told w.went (held b))) new.held

@@ -13,7 +13,7 @@ use Rattle.ws_flow.specs.Told.{bytes_of, Mark, Open as MayCome, Told, told, then
 use Rattle.ws_flow.proofs.Steps.{goes_out}
 use Rattle.ws_flow.proofs.Told.{short_trans, short_left, then_empty}
 use Rattle.ws_io.specs.Feed.{Feed}
-use Rattle.ws_io.specs.Gain.{Gains}
+use Rattle.ws_io.specs.Gain.{Gains, Got, IsEmptied}
 use Rattle.ws_io.specs.Moment.{Moment}
 use Rattle.ws_stages.specs.State.{State}
 use Rattle.ws_steps.specs.declared.calls.Event.TheVariants.{Host}
@@ -222,10 +222,11 @@ module _ (shape : Shape) (past : List Entry) (a : Node) (realm : SeenRealm) (sin
             (goes_out (machines (stages_in a.core)) 0 (works_in a.core) (lies_in a) (lies_in b) went (same-length a.core.stages.items)
             (λ j p less. lies-before j (let e = count-works in omega arith)) last)
 
-        pub sunk : feeds_edge a.exit.output ≡ false → (rf : ℕ) (feed : Option Feed) (old new : Shown) (p q : List ℕ → Type 0) (gain : List ℕ) (out : Mark) → Gains p q gain → IsShortOf (told gain out) (bytes_of went)
+        pub sunk : feeds_edge a.exit.output ≡ false → (rf : ℕ) (feed : Option Feed) (old new : Shown) (p q : Got) (gain : List ℕ) (out : Mark) → Gains p q gain → IsShortOf (told gain out) (bytes_of went)
             → (a.core.stages.items ≡ [] → a.entrance.ahead ≤ length gain + k) → OutputGoes a.exit.output o gain out (shows rf feed old) (shows rf feed new) → AbortGoes a.exit.abort x went.items gain o
-            → (0 < length gain → StopsIn (length gain) went.items gain) → HasOne b → Handled shape a b (shows rf feed old) (shows rf feed new) p q
-        sunk not_edge rf feed old new p q gain out gained written ahead out_goes abort last one =
+            → (0 < length gain → StopsIn (length gain) went.items gain) → HasOne b → (a.exit.output ≡ output.Open → o ≡ output.Finished → IsEmptied q)
+            → Handled shape a b (shows rf feed old) (shows rf feed new) p q
+        sunk not_edge rf feed old new p q gain out gained written ahead out_goes abort last one emptied =
             let none : a.exit.below ≡ None = (to-sink shape.target a.exit since.led.is_of.into not_edge).1 in
             let below : b.exit.below ≡ a.exit.below = ap (λ (n : Node). n.exit.below) b-is in
             let taken : b.entrance.taken ≡ a.entrance.taken = ap (λ (n : Node). n.entrance.taken) b-is in
@@ -266,6 +267,7 @@ module _ (shape : Shape) (past : List Entry) (a : Node) (realm : SeenRealm) (sin
                       written = written;
                       output = subst (λ (z : Output). OutputGoes a.exit.output z gain out (shows rf feed old) (shows rf feed new)) (sym o_is) out_goes;
                       abort = subst (λ (z : Option Abort). AbortGoes a.exit.abort z went.items gain b.exit.output) (sym x_is) (subst (λ (z : Output). AbortGoes a.exit.abort x went.items gain z) (sym o_is) abort);
+                      emptied = λ e f. emptied e (sym o_is ∙ f);
                       sink = ap (λ (n : Node). n.exit.sink) b-is;
                       below = below;
                     });

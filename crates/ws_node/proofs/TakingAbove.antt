@@ -13,6 +13,7 @@ use Rattle.ws_flow.specs.Rows.{told_by}
 use Rattle.ws_flow.specs.Stages.{machines}
 use Rattle.ws_flow.specs.Steps.{parts_at, behind_of}
 use Rattle.ws_flow.specs.Told.{Open as MayCome, Told, then_told, IsShortOf}
+use Rattle.ws_io.specs.Gain.{Got}
 use Rattle.ws_io.proofs.Flow.{Gains-nothing}
 use Rattle.ws_io.specs.Moment.{Moment}
 use Rattle.ws_link_laws.specs.Link.{delivered, is_end}
@@ -42,7 +43,7 @@ use Rattle.ws_node.proofs.Posting.{GoesBy, went-of}
 use Rattle.ws_node.proofs.Since.{AfterCall, AllHaveCauses, since-asks}
 use Rattle.ws_node.proofs.Delivering.{more-edge, from-edge, comes, breaks, still-edge, reason-caused, last-reason, end-on, taken-by, other-delivered, ports-differ, not-first, stopped-none, grown, older-pushes}
 
-module _ (shape : Shape) (past : List Entry) (a b : Node) (t : Moment) (p : List ℕ → Type 0) (s : Since shape past a) (goes : a.core.stopped ≡ None) (m : Message) (e f : AtEdge)
+module _ (shape : Shape) (past : List Entry) (a b : Node) (t : Moment) (p : Got) (s : Since shape past a) (goes : a.core.stopped ≡ None) (m : Message) (e f : AtEdge)
     (took : TakesEnd m e f) (more : takes_more a.entrance.input ≡ true) (is : a.entrance.above ≡ Some e) (brings : Brings (as_fair m) (with_above f a) b) where
   abbrev x : Message
   x = as_fair m

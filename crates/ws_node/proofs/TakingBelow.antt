@@ -11,6 +11,7 @@ use Rattle.ws_flow.specs.Parts.{AtWork, Goes}
 use Rattle.ws_flow.specs.Stages.{machines}
 use Rattle.ws_flow.specs.Steps.{parts_at, behind_of}
 use Rattle.ws_flow.specs.Told.{Open as MayCome, Told, then_told, IsShortOf}
+use Rattle.ws_io.specs.Gain.{Got}
 use Rattle.ws_io.proofs.Flow.{Gains-nothing}
 use Rattle.ws_io.specs.Moment.{Moment}
 use Rattle.ws_link_laws.specs.Link.{silence, delivered}
@@ -38,7 +39,7 @@ use Rattle.ws_node.proofs.Nearing.{near-taken}
 use Rattle.ws_node.proofs.Posting.{GoesBy, went-of}
 use Rattle.ws_node.proofs.Since.{AfterCall, since-asks}
 
-module _ (shape : Shape) (past : List Entry) (a b : Node) (t : Moment) (p : List ℕ → Type 0) (s : Since shape past a) (goes : a.core.stopped ≡ None) (m : Message) (e f : AtEdge)
+module _ (shape : Shape) (past : List Entry) (a b : Node) (t : Moment) (p : Got) (s : Since shape past a) (goes : a.core.stopped ≡ None) (m : Message) (e f : AtEdge)
     (took : TakesEnd m e f) (is : a.exit.below ≡ Some e) (asks : BringsUp (port_below a.entrance) (as_fair m) (with_below f a) b) where
   abbrev x : Message
   x = as_fair m

@@ -13,6 +13,7 @@ use Rattle.ws_flow.proofs.Steps as steps
 use Rattle.ws_flow.proofs.Told.{then_assoc, then_empty}
 use Rattle.ws_flow.specs.Rows.{told_by}
 use Rattle.ws_flow.specs.Told.{Mark, Open as MayCome, Closed, Broken, Lost, Told, told, then_told}
+use Rattle.ws_io.specs.Gain.{Got}
 use Rattle.ws_io.specs.Moment.{Moment}
 use Rattle.ws_steps.specs.PortHistory.{has_end, posted_in}
 use Rattle.ws_steps.specs.Run.{Entry}
@@ -106,7 +107,7 @@ tell-held n w e =
     ap (then_told (told_by (waiting_at n.exit.below))) lost ∙ (tell-waits n.exit.below ∙ ap (then_told (told_by (waiting_at (tell_of n.exit.below)))) (sym lost))
 
 module _ (shape : Shape) (past : List Entry) (n : Node) (stopped : n.core.stopped ≡ Some why.NoMemory) (q r : Option AtEdge) (up : Grows (tell_of n.entrance.above) q) (down : Grows (tell_of n.exit.below) r) where
-  told-goes : (m : Moment) (p : List ℕ → Type 0) → Led shape past n → GoesBy n (with_ends q r n) m m p p
+  told-goes : (m : Moment) (p : Got) → Led shape past n → GoesBy n (with_ends q r n) m m p p
   told-goes m p s =
       record {
         read = nothing_yet;
@@ -137,7 +138,7 @@ module _ (shape : Shape) (past : List Entry) (n : Node) (stopped : n.core.stoppe
 
 -- behind all that a node did in a turn
 
-rests-out : (a b c : Exit) (x y : Told (List ℕ)) (g : List ℕ) (o : Mark) (m₀ m₁ m₂ : Moment) (p q r : List ℕ → Type 0) → GoesOut a b m₀ m₁ p q x g o → GoesOut b c m₁ m₂ q r y [] MayCome
+rests-out : (a b c : Exit) (x y : Told (List ℕ)) (g : List ℕ) (o : Mark) (m₀ m₁ m₂ : Moment) (p q r : Got) → GoesOut a b m₀ m₁ p q x g o → GoesOut b c m₁ m₂ q r y [] MayCome
     → GoesOut a c m₀ m₂ p r (then_told x y) (g ++ []) o
 rests-out a b c x y g MayCome m₀ m₁ m₂ p q r first second = outs-then a b c x y g [] MayCome MayCome m₀ m₁ m₂ p q r first second
 rests-out a b c x y g Closed m₀ m₁ m₂ p q r first second = outs-then a b c x y g [] Closed MayCome m₀ m₁ m₂ p q r first second
@@ -145,11 +146,11 @@ rests-out a b c x y g Broken m₀ m₁ m₂ p q r first second = outs-then a b c
 rests-out a b c x y g Lost m₀ m₁ m₂ p q r first second = outs-then a b c x y g [] Lost MayCome m₀ m₁ m₂ p q r first second
 
 -- The node told its neighbours: it is as it was but for its ends
-pub record ToldAll (a c : Node) (m₀ m₁ : Moment) (p q : List ℕ → Type 0) : Type 0 where
+pub record ToldAll (a c : Node) (m₀ m₁ : Moment) (p q : Got) : Type 0 where
   pub driven : Driven c
   pub went : Went a c m₀ m₁ p q
 
-pub tells : (a d c : Node) (m₀ m₁ : Moment) (p q : List ℕ → Type 0) → Driven a → a.core.stopped ≡ None → Went a d m₀ m₁ p q → Driven d → d.core.stopped ≡ Some why.NoMemory → TellsBoth d c
+pub tells : (a d c : Node) (m₀ m₁ : Moment) (p q : Got) → Driven a → a.core.stopped ≡ None → Went a d m₀ m₁ p q → Driven d → d.core.stopped ≡ Some why.NoMemory → TellsBoth d c
     → ToldAll a c m₀ m₁ p q
 unfolding told-goes
 tells a d c m₀ m₁ p q start goes on now stopped h =

@@ -3,6 +3,7 @@ use Rattle.std.proofs.Common.{◌≡◌, ◌≤◌, ℕ, Bool, true, false, ◌&
 use Rattle.std.specs.List.{list_all}
 use Rattle.ws_flow.specs.Told.{then_told, IsShortOf}
 use Rattle.ws_flow.proofs.Told.{short_refl}
+use Rattle.ws_io.specs.Gain.{Got, straight}
 use Rattle.ws_io.specs.Moment.{Moment, moment}
 use Rattle.ws_io.proofs.Flow.{Gains-nothing}
 use Rattle.ws_steps.specs.Queues.{is_empty}
@@ -42,7 +43,7 @@ module _ (a : Node) (realm : SeenRealm) (goes : a.core.stopped ≡ None) (alike 
   tidied-short k =
       subst (λ (q : Slots). IsShortOf (lying_by a.core.stopped (then_told (in_bytes (behind_at k q)) (coming a k))) (lies_in a k)) alike (short_refl (lies_in a k))
 
-  tidied : (shape : Shape) (past : List Entry) (m : Moment) (p : List ℕ → Type 0) → Since shape past a → Handled shape a b m m p p
+  tidied : (shape : Shape) (past : List Entry) (m : Moment) (p : Got) → Since shape past a → Handled shape a b m m p p
   tidied shape past m p s = record {
     past = past;
     led = tidied-led shape past s.led;
@@ -55,10 +56,10 @@ module _ (a : Node) (realm : SeenRealm) (goes : a.core.stopped ≡ None) (alike 
   pub tidied-driven : Driven a → Driven b
   tidied-driven d =
       let m : Moment = moment 0 None 0 None in
-      let p : List ℕ → Type 0 = λ xs. Unit {0} in
+      let p : Got = straight (λ xs. Unit {0}) in
       driven-handled d.shape d.past a b m m p p d.since (tidied d.shape d.past m p d.since)
 
-  pub tidied-went : (x : Node) (m n : Moment) (p q : List ℕ → Type 0) → Driven a → Went x a m n p q → Went x b m n p q
+  pub tidied-went : (x : Node) (m n : Moment) (p q : Got) → Driven a → Went x a m n p q → Went x b m n p q
   tidied-went x m n p q d went = went-then x a b m n n p q q went (tidied d.shape d.past n q d.since).went
 
   pub tidied-posts : (x : Node) → PostsHeard x a → PostsHeard x b

@@ -1,8 +1,9 @@
 -- A turn of a node: it posts, takes a message at each end, and goes on; and what it answers.
-use Rattle.std.proofs.Common.{◌≡◌, ◌+◌, ◌≤◌, ◌<◌, ℕ, Bool, true, false, ◌||◌, ◌&&◌, if◌then◌else◌, is_some, List, [], ◌∷◌, ◌++◌, length, Option, Some, None, refl, sym, ap, ◌∙◌, subst, length-append, arith}
+use Rattle.std.proofs.Common.{◌≡◌, ◌+◌, ◌≤◌, ◌<◌, Bool, true, false, ◌||◌, ◌&&◌, if◌then◌else◌, is_some, List, [], ◌∷◌, ◌++◌, length, Option, Some, None, refl, sym, ap, ◌∙◌, subst, length-append, arith}
 use Rattle.ws_value.specs.declared.ids.PortId.{PortId}
 use Rattle.ws_value.specs.declared.value.Message.{Message}
 use Rattle.ws_edge.specs.Edge.{AtEdge, FindsFull, FindsNone}
+use Rattle.ws_io.specs.Gain.{Got, straight}
 use Rattle.ws_io.specs.Moment.{Moment, moment}
 use Rattle.ws_port.specs.Ends.{Posted, Taken}
 use Rattle.ws_steps.specs.declared.calls.Call.{Call}
@@ -38,7 +39,7 @@ pub record Begins (a b t u : Node) (posted up down : Bool) : Type 0 where
   pub below : TakesBelow down t u
 
 module _ (a b t u : Node) (posted up down : Bool) (s : Begins a b t u posted up down) where
-  module _ (m : Moment) (p : List ℕ → Type 0) where
+  module _ (m : Moment) (p : Got) where
     first : Handled s.driven.shape a b m m p p
     first = let d = s.driven in posts d.shape d.past a b posted m p s.goes d.since s.post
 
@@ -59,36 +60,36 @@ module _ (a b t u : Node) (posted up down : Bool) (s : Begins a b t u posted up 
     begins-went = went-then a t u m m m p p p (went-then a b t m m m p p p first.went second.went) third.went
 
   pub begins-driven : Driven u
-  begins-driven = begins-driven-at (moment 0 None 0 None) (λ xs. Unit {0})
+  begins-driven = begins-driven-at (moment 0 None 0 None) (straight (λ xs. Unit {0}))
 
-  begins-stay : (x y : Node) (m : Moment) (p : List ℕ → Type 0) → Went x y m m p p → Stays x y
+  begins-stay : (x y : Node) (m : Moment) (p : Got) → Went x y m m p p → Stays x y
   begins-stay x y m p w why e = (w.stays why e).same
 
   pub begins-give : GivesHeard a u
   begins-give =
       let m : Moment = moment 0 None 0 None in
-      let p : List ℕ → Type 0 = λ xs. Unit {0} in
+      let p : Got = straight (λ xs. Unit {0}) in
       gives-then a t u (begins-stay t u m p (third m p).went)
       (gives-then a b t (begins-stay b t m p (second m p).went) (posts-give posted a b s.post) (takes-above-give up b t s.above)) (takes-below-give down t u s.below)
 
   -- and then it goes on
-  pub turn-goes : (d : Node) (m n : Moment) (p q : List ℕ → Type 0) → Went u d m n p q → Went a d m n p q
+  pub turn-goes : (d : Node) (m n : Moment) (p q : Got) → Went u d m n p q → Went a d m n p q
   turn-goes d m n p q on = went-then a u d m m n p p q (begins-went m p) on
 
-  turn-gives : (d : Node) (m n : Moment) (p q : List ℕ → Type 0) → Went u d m n p q → GivesHeard u d → GivesHeard a d
+  turn-gives : (d : Node) (m n : Moment) (p q : Got) → Went u d m n p q → GivesHeard u d → GivesHeard a d
   turn-gives d m n p q on gives = gives-then a u d (λ why e. (on.stays why e).same) begins-give gives
 
-  pub turn-posts : (d : Node) (m n : Moment) (p q : List ℕ → Type 0) → Went u d m n p q → GivesHeard u d → PostsHeard a d
+  pub turn-posts : (d : Node) (m n : Moment) (p q : Got) → Went u d m n p q → GivesHeard u d → PostsHeard a d
   turn-posts d m n p q on gives = gives-post a d m n p q (turn-goes d m n p q on) (turn-gives d m n p q on gives)
 
   -- or finds no memory, and tells its neighbours so
-  pub told-posts : (d e : Node) (m n : Moment) (p q : List ℕ → Type 0) → Went u d m n p q → GivesHeard u d → d.core.stopped ≡ Some why.NoMemory → TellsBoth d e → Went a e m n p q → PostsHeard a e
+  pub told-posts : (d e : Node) (m n : Moment) (p q : Got) → Went u d m n p q → GivesHeard u d → d.core.stopped ≡ Some why.NoMemory → TellsBoth d e → Went a e m n p q → PostsHeard a e
   told-posts d e m n p q on gives full tells whole = gives-post a e m n p q whole (tells-give a d e full (turn-gives d m n p q on gives) tells)
 
-  posted-went : (m n : Moment) (p q : List ℕ → Type 0) (d : Node) → Went u d m n p q → Went b d m n p q
+  posted-went : (m n : Moment) (p q : Got) (d : Node) → Went u d m n p q → Went b d m n p q
   posted-went m n p q d on = went-then b u d m m n p p q (went-then b t u m m m p p p (second m p).went (third m p).went) on
 
-  took-went : (m n : Moment) (p q : List ℕ → Type 0) (d : Node) → Went u d m n p q → Went t d m n p q
+  took-went : (m n : Moment) (p q : Got) (d : Node) → Went u d m n p q → Went t d m n p q
   took-went m n p q d on = went-then t u d m m n p p q (third m p).went on
 
 -- What was taken and posted stays
@@ -96,25 +97,25 @@ module _ (a b t u : Node) (posted up down : Bool) (s : Begins a b t u posted up 
 more-by : (xs ys zs : List Message) → ys ≡ xs ++ zs → length xs ≤ length ys
 more-by xs ys zs e = omega (arith, ap length e, length-append xs zs)
 
-up-sent : (x y : Node) (m n : Moment) (p q : List ℕ → Type 0) → Went x y m n p q → length (sent_at x.entrance.above) ≤ length (sent_at y.entrance.above)
+up-sent : (x y : Node) (m n : Moment) (p q : Got) → Went x y m n p q → length (sent_at x.entrance.above) ≤ length (sent_at y.entrance.above)
 up-sent x y m n p q w = by w.from where
   by : ComesIn x.entrance y.entrance m n w.read → length (sent_at x.entrance.above) ≤ length (sent_at y.entrance.above)
   by (ByInput e on) = let f = ap (λ o. length (sent_at o)) on.above in omega arith
   by (ByEdge e on) = more-by (sent_at x.entrance.above) (sent_at y.entrance.above) on.posted on.end.sent
 
-up-received : (x y : Node) (m n : Moment) (p q : List ℕ → Type 0) → Went x y m n p q → length (received_at x.entrance.above) ≤ length (received_at y.entrance.above)
+up-received : (x y : Node) (m n : Moment) (p q : Got) → Went x y m n p q → length (received_at x.entrance.above) ≤ length (received_at y.entrance.above)
 up-received x y m n p q w = by w.from where
   by : ComesIn x.entrance y.entrance m n w.read → length (received_at x.entrance.above) ≤ length (received_at y.entrance.above)
   by (ByInput e on) = let f = ap (λ o. length (received_at o)) on.above in omega arith
   by (ByEdge e on) = more-by (received_at x.entrance.above) (received_at y.entrance.above) on.taken on.end.received
 
-down-sent : (x y : Node) (m n : Moment) (p q : List ℕ → Type 0) → Went x y m n p q → length (sent_at x.exit.below) ≤ length (sent_at y.exit.below)
+down-sent : (x y : Node) (m n : Moment) (p q : Got) → Went x y m n p q → length (sent_at x.exit.below) ≤ length (sent_at y.exit.below)
 down-sent x y m n p q w = by w.into where
   by : GoesOut x.exit y.exit m n p q w.went w.gain w.out → length (sent_at x.exit.below) ≤ length (sent_at y.exit.below)
   by (ToOutput e on) = let f = ap (λ o. length (sent_at o)) on.below in omega arith
   by (ToEdge e on) = more-by (sent_at x.exit.below) (sent_at y.exit.below) on.posted on.end.sent
 
-down-received : (x y : Node) (m n : Moment) (p q : List ℕ → Type 0) → Went x y m n p q → length (received_at x.exit.below) ≤ length (received_at y.exit.below)
+down-received : (x y : Node) (m n : Moment) (p q : Got) → Went x y m n p q → length (received_at x.exit.below) ≤ length (received_at y.exit.below)
 down-received x y m n p q w = by w.into where
   by : GoesOut x.exit y.exit m n p q w.went w.gain w.out → length (received_at x.exit.below) ≤ length (received_at y.exit.below)
   by (ToOutput e on) = let f = ap (λ o. length (received_at o)) on.below in omega arith
@@ -171,7 +172,7 @@ begun-as a u d e (JobFirst idle goes) =
 begun-as a u d e (EventFirst none goes) =
     EventFirst (subst (λ (c : Core). is_empty c.realm.slots.promises.events ≡ false) e none) (goes-as Heard a u d e goes)
 
-module _ (a b t u : Node) (posted : Bool) (d : Node) (m n : Moment) (p q : List ℕ → Type 0) (on : Went u d m n p q) where
+module _ (a b t u : Node) (posted : Bool) (d : Node) (m n : Moment) (p q : Got) (on : Went u d m n p q) where
   -- a message was posted
   done-posted : (up down : Bool) → Begins a b t u true up down → HasDone a d
   done-posted up down s = by s.post.above s.post.below s.post.posted_is s.post.posts_above s.post.posts_below where
@@ -210,7 +211,7 @@ module _ (a b t u : Node) (posted : Bool) (d : Node) (m n : Moment) (p q : List 
   done-begun s h =
       Begun (begun-as a u d ((kept-below t u s.below).0 ∙ ((kept-above b t s.above).0 ∙ ap (λ (n : Node). n.core) s.post.is)) h)
 
-pub done : (a b t u : Node) (posted up down busy : Bool) (d : Node) (m n : Moment) (p q : List ℕ → Type 0) → Went u d m n p q → Begins a b t u posted up down → busy ≡ is_busy u.core
+pub done : (a b t u : Node) (posted up down busy : Bool) (d : Node) (m n : Moment) (p q : Got) → Went u d m n p q → Begins a b t u posted up down → busy ≡ is_busy u.core
     → (is_busy u.core ≡ true → IsBegun u d) → (((posted || up) || down) || busy) ≡ true → HasDone a d
 done a b t u true up down busy d m n p q on s is begun some = done-posted a b t u true d m n p q on up down s
 done a b t u false true down busy d m n p q on s is begun some = done-above a b t u false d m n p q on down s
@@ -220,7 +221,7 @@ done a b t u false false false busy d m n p q on s is begun some = done-begun a 
 -- A turn that ends once something was posted
 
 module _ (a b : Node) (driven : Driven a) (goes : a.core.stopped ≡ None) (post : PostsBoth true a b) where
-  module _ (m : Moment) (p : List ℕ → Type 0) where
+  module _ (m : Moment) (p : Got) where
     only : Handled driven.shape a b m m p p
     only = posts driven.shape driven.past a b true m p goes driven.since post
 
@@ -230,13 +231,13 @@ module _ (a b : Node) (driven : Driven a) (goes : a.core.stopped ≡ None) (post
   pub posted-only-driven : Driven b
   posted-only-driven =
       let m : Moment = moment 0 None 0 None in
-      let p : List ℕ → Type 0 = λ xs. Unit {0} in
+      let p : Got = straight (λ xs. Unit {0}) in
       driven-handled driven.shape driven.past a b m m p p driven.since (only m p)
 
   pub posted-only-gives : PostsHeard a b
   posted-only-gives =
       let m : Moment = moment 0 None 0 None in
-      let p : List ℕ → Type 0 = λ xs. Unit {0} in
+      let p : Got = straight (λ xs. Unit {0}) in
       gives-post a b m m p p (posted-only-went m p) (posts-give true a b post)
 
   pub posted-only-goes : b.core.stopped ≡ None

@@ -17,7 +17,7 @@ use Rattle.ws_flow.specs.Rows.{told_by}
 use Rattle.ws_flow.specs.Stages.{machines}
 use Rattle.ws_flow.specs.Steps.{parts_at, behind_of}
 use Rattle.ws_flow.specs.Told.{Open as MayCome, Told, told, then_told, IsShortOf}
-use Rattle.ws_io.specs.Gain.{Gains}
+use Rattle.ws_io.specs.Gain.{Gains, Got}
 use Rattle.ws_io.specs.Moment.{Moment}
 use Rattle.ws_laws.proofs.Tables.{eq_numbers}
 use Rattle.ws_link_laws.specs.Link.{silence, heard_post, is_port}
@@ -160,7 +160,7 @@ rows-grow o e f is same =
     subst (λ z. EndGrows z (Some f) [] []) (sym is)
     (subst (λ (z : AtEdge). EndGrows (Some e) (Some z) [] []) (sym same) (record { rows = refl; received = sym (append-nil e.from.received); sent = sym (append-nil e.to.sent) }))
 
-module _ (shape : Shape) (past : List Entry) (a : Node) (realm : SeenRealm) (t : Moment) (p q : List ℕ → Type 0) (gained : Gains p q []) (s : Since shape past a) (goes : a.core.stopped ≡ None) where
+module _ (shape : Shape) (past : List Entry) (a : Node) (realm : SeenRealm) (t : Moment) (p q : Got) (gained : Gains p q []) (s : Since shape past a) (goes : a.core.stopped ≡ None) where
   abbrev was : Node
   was = with_realm realm a
 
@@ -479,7 +479,7 @@ module _ (shape : Shape) (past : List Entry) (a : Node) (realm : SeenRealm) (t :
       waits-above m (subst (λ (z : PortId). AfterEvent shape past a realm (Post z m)) is event) (subst (λ (z : PortId). is_same_port (sink_port shape.origin) z ≡ false) is e) b h
   waits-at c m b false false e f event h = subst (λ (n : Node). Handled shape a n t t p q) (sym h) (waits-nowhere c m event e f)
 
-pub waits : (shape : Shape) (past : List Entry) (a : Node) (realm : SeenRealm) (b : Node) (c : PortId) (m : Message) (t : Moment) (p q : List ℕ → Type 0) → Gains p q [] → Since shape past a
+pub waits : (shape : Shape) (past : List Entry) (a : Node) (realm : SeenRealm) (b : Node) (c : PortId) (m : Message) (t : Moment) (p q : Got) → Gains p q [] → Since shape past a
     → a.core.stopped ≡ None → AfterEvent shape past a realm (Post c m) → Waits c m (with_realm realm a) b → Handled shape a b t t p q
 waits shape past a realm b c m t p q gained s goes event h =
     waits-at shape past a realm t p q gained s goes c m b (is_same_port (port_below a.entrance) c) (is_same_port source_port c)

@@ -2,6 +2,7 @@
 use Rattle.std.proofs.Common.{◌≡◌, ◌≤◌, ◌<◌, ℕ, List, ◌++◌, Option, Some, None, refl, sym, ap, ◌∙◌, subst, arith}
 use Rattle.std.proofs.lemmas.List.Elements.{All-weaker}
 use Rattle.ws_node.specs.Shape.{Shape}
+use Rattle.ws_io.specs.Gain.{Got}
 use Rattle.ws_io.specs.Moment.{Moment}
 use Rattle.ws_io.proofs.Flow.{Gains-nothing}
 use Rattle.ws_realm.specs.declared.realm.Why.{Why}
@@ -29,7 +30,7 @@ one-stays a b only =
     subst (λ (n : Node). ((m : ℕ) → OneAtMost m (behind_at 0 a.core.realm.slots).items → OneAtMost m (behind_at 0 n.core.realm.slots).items) → HasOne a → HasOne n) (sym only.is)
     (λ keeps one fed may. keeps a.entrance.ahead (one fed may))
 
-pub works : (shape : Shape) (past : List Entry) (a b : Node) (m : Moment) (p : List ℕ → Type 0) → Since shape past a → Works a b → Handled shape a b m m p p
+pub works : (shape : Shape) (past : List Entry) (a b : Node) (m : Moment) (p : Got) → Since shape past a → Works a b → Handled shape a b m m p p
 works shape past a b m p since w =
     let after = since-works shape past a b since.led w in
     record {

@@ -2,7 +2,7 @@
 use Rattle.std.specs.Prelude.{◌≡◌, ◌+◌, ◌<◌, ◌≤◌, ℕ, List, ◌++◌, length}
 use Rattle.ws_io.specs.Faults.{Rose}
 use Rattle.ws_io.specs.Feed.{Fed, IsEnded, IsEmpty}
-use Rattle.ws_io.specs.Gain.{Gains, Becomes}
+use Rattle.ws_io.specs.Gain.{Gains, Becomes, Got}
 use Rattle.ws_io.specs.Moment.{Moment, NoFault}
 use Rattle.ws_io.specs.declared.status.Status.{Status}
 use Rattle.ws_io.specs.declared.status.Status.TheVariants.{Done, Stage, Usage, Plan, ReadFault, WriteFault, Aborted, NoMemory, Script, LoadFault, TooMuch}
@@ -34,7 +34,7 @@ AllowsCopy TooMuch most old new taken gain = most < length taken
 
 -- How a run without stages that took `taken` ends: what the output gained is a first part of it, at most `ahead` bytes of it weren't
 -- written, and at most one byte more than `most` was taken.
-pub record Copies (status : Status) (most ahead : ℕ) (old new : Moment) (got got' : List ℕ → Type 0) : Type 0 where
+pub record Copies (status : Status) (most ahead : ℕ) (old new : Moment) (got got' : Got) : Type 0 where
   pub taken : List ℕ
   pub gain : List ℕ
   pub rest : List ℕ

@@ -11,9 +11,9 @@ use Rattle.ws_flow.specs.Machines.{ending}
 use Rattle.ws_flow.specs.Plans.{as_one, reach, stages_of}
 use Rattle.ws_flow.specs.Stages.{is_of_end, machines}
 use Rattle.ws_flow.specs.Told.{bytes_of, Mark, Open, Closed, Broken, Told, told, IsBefore}
-use Rattle.ws_io.specs.Faults.{Rose}
+use Rattle.ws_io.specs.Faults.{IsLater, Rose}
 use Rattle.ws_io.specs.Feed.{Fed, IsEnded, IsEmpty}
-use Rattle.ws_io.specs.Gain.{Gains, Becomes, KeepsTold}
+use Rattle.ws_io.specs.Gain.{Gains, Becomes, KeepsTold, Got, IsEmptied}
 use Rattle.ws_io.specs.Moment.{Moment, NoFault}
 use Rattle.ws_io.specs.declared.status.Status.{Status}
 use Rattle.ws_io.specs.declared.status.Status.TheVariants.{Done, Stage, Usage, Plan as PlanIs, ReadFault, WriteFault, Aborted, NoMemory, Script, LoadFault, TooMuch}
@@ -105,7 +105,7 @@ Leaves TooMuch old new = KeepsTold old.finished new.finished
 
 -- How a run of a plan that took `taken` ends: what the output gained is a first part of what comes out of the stages for it, at most one byte more than
 -- the plan's most was taken, and without stages at most 4,096 bytes of it weren't written.
-pub record Ends (status : Status) (plan : Plan) (old new : Moment) (got got' : List ℕ → Type 0) : Type 0 where
+pub record Ends (status : Status) (plan : Plan) (old new : Moment) (got got' : Got) : Type 0 where
   pub taken : List ℕ
   pub gain : List ℕ
   pub mark : Mark
@@ -118,6 +118,9 @@ pub record Ends (status : Status) (plan : Plan) (old new : Moment) (got got' : L
   pub abort : IsWithinAbort plan.abort_after gain
   pub allowed : Allows status plan mark old new taken gain
   pub finish_kept : Leaves status old new
+  pub later : IsLater old.write_faults new.write_faults
+  -- a complete run leaves nothing held back
+  pub emptied : status ≡ Done → IsEmptied got'
 
 -- the reasons with which the pipe of a node may be rejected, but for want of memory, and the status of each
 

@@ -7,6 +7,7 @@ use Rattle.ws_flow.specs.Parts.{Goes, residual}
 use Rattle.ws_flow.specs.Plans.{as_one, stages_of}
 use Rattle.ws_flow.specs.Stages.{machines}
 use Rattle.ws_flow.specs.Told.{bytes_of, Mark, Closed, Lost, Told, told, then_told, IsBefore, IsShortOf}
+use Rattle.ws_io.specs.Gain.{Got}
 use Rattle.ws_io.specs.Moment.{Moment}
 use Rattle.ws_node.specs.declared.node.Node.{Node}
 use Rattle.ws_node.specs.declared.node.Output.TheVariants as output
@@ -55,7 +56,7 @@ pub record KeepsFlow (plan : Plan) (n : Node) (read went : Told (List ℕ)) (gai
   pub bad : (index code place : ℕ) → EndedAs index code place n.core.stages.items → IsBad plan index code place read.mark (concat read.items)
 
 -- `got` tells for what lists each output stands
-abbrev pub EachGoesOn : {K : Type 0} → (K → List ℕ → Type 0) → Type 0
+abbrev pub EachGoesOn : {K : Type 0} → (K → Got) → Type 0
 EachGoesOn {K} got =
     ((a : Node) (m : Moment) (k : K) → Went a a m m (got k) (got k))
     × ((a b c : Node) (m₀ m₁ m₂ : Moment) (k₀ k₁ k₂ : K) → Went a b m₀ m₁ (got k₀) (got k₁) → Went b c m₁ m₂ (got k₁) (got k₂)

@@ -12,7 +12,7 @@ use Rattle.ws_flow.specs.declared.plan.Ending.TheVariants.{Fine, Bad}
 use Rattle.ws_flow.specs.Stages.{machine, HasLength}
 use Rattle.ws_io.specs.Faults.{Rose}
 use Rattle.ws_io.specs.Feed.{Feed}
-use Rattle.ws_io.specs.Gain.{Gains, Becomes, KeepsTold}
+use Rattle.ws_io.specs.Gain.{Gains, Becomes, KeepsTold, Got, IsEmptied}
 use Rattle.ws_io.specs.declared.outside.Failed.{Failed}
 use Rattle.ws_steps.specs.declared.calls.Answer.TheVariants.{Ok as AnswerOk, Fail as AnswerFail}
 use Rattle.ws_steps.specs.declared.calls.Call.{Call}
@@ -181,13 +181,13 @@ abbrev pub written : ℕ → Node → Node
 written count n = record n { entrance = record n.entrance { ahead = had_by n.core.stages.items count n.entrance.ahead } }
 
 -- nothing was written, since the output takes no more
-pub record Untouched (old new : Shown) (got got' : List ℕ → Type 0) : Type 0 where
+pub record Untouched (old new : Shown) (got got' : Got) : Type 0 where
   pub shown : new ≡ old
   pub gained : Gains got got' []
 
 -- A chunk was asked to be written: all of it was; or a first part, and then a write failed; or the output takes no more, since it was finished or
 -- has failed, or has all bytes before the abort
-pub data Writes (id : HostId) (piece : List ℕ) (a b : Node) (old new : Shown) (got got' : List ℕ → Type 0) : Type 0 where
+pub data Writes (id : HostId) (piece : List ℕ) (a b : Node) (old new : Shown) (got got' : Got) : Type 0 where
   WroteAll : a.exit.output ≡ Open → is_reached a.exit.abort ≡ false → Gains got got' piece → new.faults ≡ old.faults → KeepsTold old.finished new.finished
       → (c : Node) → DrawsNear (length piece) (written (length piece) a) c → Asks (settles id) c b → Writes id piece a b old new got got'
   WroteLess : a.exit.output ≡ Open → is_reached a.exit.abort ≡ false → (gain rest : List ℕ) → piece ≡ gain ++ rest → Gains got got' gain → Rose old.faults new.faults
@@ -197,12 +197,21 @@ pub data Writes (id : HostId) (piece : List ℕ) (a b : Node) (old new : Shown) 
       → Writes id piece a b old new got got'
 
 -- the output was asked to be finished: it was; or that failed; or it takes no more
-pub data Finishes (id : HostId) (a b : Node) (old new : Shown) (got got' : List ℕ → Type 0) : Type 0 where
-  FinishedWell : a.exit.output ≡ Open → Gains got got' [] → new.faults ≡ old.faults → Becomes old.finished new.finished
+pub data Finishes (id : HostId) (a b : Node) (old new : Shown) (got got' : Got) : Type 0 where
+  FinishedWell : a.exit.output ≡ Open → Gains got got' [] → IsEmptied got' → new.faults ≡ old.faults → Becomes old.finished new.finished
       → Asks (settles id) (record a { exit = record a.exit { output = Finished } }) b → Finishes id a b old new got got'
   FinishedBadly : a.exit.output ≡ Open → Gains got got' [] → Rose old.faults new.faults → KeepsTold old.finished new.finished
       → Fails id a b → Finishes id a b old new got got'
   FinishedNot : a.exit.output ≢ Open → Untouched old new got got' → Fails id a b → Finishes id a b old new got got'
+
+-- What an output holds back is to be written: nothing is done, since the realm has stopped, the output takes no more, or no read of the input
+-- would wait with it; or all of it was written; or that failed, and then the output takes no more
+pub data Empties (a b : Node) (old new : Shown) (got got' : Got) : Type 0 where
+  LeftHeld : b ≡ a → Untouched old new got got' → Empties a b old new got got'
+  WroteHeld : a.core.stopped ≡ None → a.exit.output ≡ Open → b ≡ a → Gains got got' [] → IsEmptied got' → new.faults ≡ old.faults → KeepsTold old.finished new.finished
+      → Empties a b old new got got'
+  NotWritten : a.core.stopped ≡ None → a.exit.output ≡ Open → b ≡ record a { exit = record a.exit { output = OutputFailed } } → Gains got got' [] → Rose old.faults new.faults
+      → KeepsTold old.finished new.finished → Empties a b old new got got'
 
 -- What is asked of the host and how it is answered
 
@@ -223,14 +232,14 @@ MayAnswer n call =
     → IsAt i n.core.stages.items before w after → IsLive w.work → CanPush piece w
 
 -- a pull waits until it may be answered; the sink's chunks are written, and its close finishes the output; all else is settled at once
-abbrev pub Settles : HostId → Node → Node → Shown → Shown → (List ℕ → Type 0) → (List ℕ → Type 0) → Type 0
+abbrev pub Settles : HostId → Node → Node → Shown → Shown → Got → Got → Type 0
 Settles id a b old new got got' = Asks (settles id) a b × Untouched old new got got'
 
-abbrev pub writes_by : HostId → Value → Node → Node → Shown → Shown → (List ℕ → Type 0) → (List ℕ → Type 0) → Bool → Type 0
+abbrev pub writes_by : HostId → Value → Node → Node → Shown → Shown → Got → Got → Bool → Type 0
 writes_by id (Bytes piece) a b old new got got' true = Writes id piece a b old new got got'
 writes_by id v a b old new got got' _ = Settles id a b old new got got'
 
-abbrev pub finishes_by : HostId → Node → Node → Shown → Shown → (List ℕ → Type 0) → (List ℕ → Type 0) → Bool → Type 0
+abbrev pub finishes_by : HostId → Node → Node → Shown → Shown → Got → Got → Bool → Type 0
 finishes_by id a b old new got got' true = Finishes id a b old new got got'
 finishes_by id a b old new got got' false = Settles id a b old new got got'
 
@@ -300,7 +309,7 @@ pub data Flushes (id : HostId) (i : StreamId) (a b : Node) : Type 0 where
   NotFlushed : (before after : List State) (w : State) → IsAt i a.core.stages.items before w after → (IsLive w.work → ⊥) → b ≡ a → Flushes id i a b
   NothingToFlush : NoneThere i a.core.stages.items → b ≡ a → Flushes id i a b
 
-abbrev pub Answers : HostId → HostCall → Node → Node → Shown → Shown → (List ℕ → Type 0) → (List ℕ → Type 0) → Type 0
+abbrev pub Answers : HostId → HostCall → Node → Node → Shown → Shown → Got → Got → Type 0
 Answers id (HostPull i) a b old new got got' = (b ≡ record a { entrance = record a.entrance { asked = Some id } }) × Untouched old new got got'
 Answers id (HostWrite i v) a b old new got got' = writes_by id v a b old new got got' (is_sink a.exit i)
 Answers id (HostClose i) a b old new got got' = finishes_by id a b old new got got' (is_sink a.exit i)

@@ -3,6 +3,7 @@ use Rattle.std.specs.Prelude.{◌≡◌, ℕ, suc, pos, nat_abs, List, [], ◌�
 use Rattle.ws_value.specs.declared.value.Message.{Message}
 use Rattle.ws_edge.specs.Edge.{AtEdge}
 use Rattle.ws_flow.specs.declared.plan.Plan.{Plan}
+use Rattle.ws_io.specs.Gain.{Got, straight}
 use Rattle.ws_io.specs.Moment.{Moment, moment}
 use Rattle.ws_node.specs.declared.node.Node.{Node}
 use Rattle.ws_node.specs.Node.{received_at, sent_at}
@@ -85,9 +86,9 @@ of_output m = moment 0 None m.write_faults m.finished
 abbrev pub of_neither : Moment
 of_neither = moment 0 None 0 None
 
--- for what lists an output stands that isn't there
-abbrev pub any_bytes : List ℕ → Type 0
-any_bytes bytes = Unit {0}
+-- what an output got that isn't there: it holds nothing back, and stands for any bytes
+abbrev pub any_bytes : Got
+any_bytes = straight (λ xs. Unit {0})
 
 abbrev pub HeadGoes : Moment → Moment → Node → Node → Type 0
 HeadGoes old new a b = Went a b (of_input old) (of_input new) any_bytes any_bytes
@@ -95,11 +96,11 @@ HeadGoes old new a b = Went a b (of_input old) (of_input new) any_bytes any_byte
 abbrev pub MiddleGoes : Node → Node → Type 0
 MiddleGoes a b = Went a b of_neither of_neither any_bytes any_bytes
 
-abbrev pub TailGoes : Moment → Moment → (List ℕ → Type 0) → (List ℕ → Type 0) → Node → Node → Type 0
+abbrev pub TailGoes : Moment → Moment → Got → Got → Node → Node → Type 0
 TailGoes old new got got' a b = Went a b (of_output old) (of_output new) got got'
 
 -- how they go on, in any order of their turns
-pub record AllGo (a b : Nodes) (old new : Moment) (got got' : List ℕ → Type 0) : Type 0 where
+pub record AllGo (a b : Nodes) (old new : Moment) (got got' : Got) : Type 0 where
   pub head : HeadGoes old new a.head b.head
   pub middles : Each MiddleGoes a.middles b.middles
   pub tail : TailGoes old new got got' a.tail b.tail

@@ -11,7 +11,7 @@ use Rattle.ws_joined_laws.specs.Ends.{StopsIn}
 use Rattle.ws_joined_laws.specs.Reasons.{reasons_in}
 use Rattle.ws_io.specs.Faults.{Rose}
 use Rattle.ws_io.specs.Feed.{Fed, IsEmpty, IsEnded, KeepsEnd}
-use Rattle.ws_io.specs.Gain.{Gains, Becomes, KeepsTold}
+use Rattle.ws_io.specs.Gain.{Gains, Becomes, KeepsTold, Got, IsEmptied}
 use Rattle.ws_io.specs.Moment.{Moment}
 use Rattle.ws_realm.specs.declared.realm.Why.{Why}
 use Rattle.ws_node.specs.declared.node.Abort.{Abort}
@@ -151,16 +151,18 @@ pub data ComesIn (a b : Entrance) (old new : Moment) (came : Told (List ℕ)) : 
   ByEdge : is_edge a.input ≡ true → TakesOn a b old new came → ComesIn a b old new came
 
 -- What its output adds: what that gained is what went out, or is cut short of it
-pub record ToGoes (a b : Exit) (old new : Moment) (got got' : List ℕ → Type 0) (went : Told (List ℕ)) (gain : List ℕ) (out : Mark) : Type 0 where
+pub record ToGoes (a b : Exit) (old new : Moment) (got got' : Got) (went : Told (List ℕ)) (gain : List ℕ) (out : Mark) : Type 0 where
   pub gained : Gains got got' gain
   pub written : IsShortOf (told gain out) (bytes_of went)
+  -- as it is finished nothing is held back any more
+  pub emptied : a.output ≡ output.Open → b.output ≡ output.Finished → IsEmptied got'
   pub output : OutputGoes a.output b.output gain out old new
   pub abort : AbortGoes a.abort b.abort went.items gain b.output
   pub sink : b.sink ≡ a.sink
   pub below : b.below ≡ a.below
 
 -- What an edge adds: what went out is what was posted
-pub record PostsOn (a b : Exit) (old new : Moment) (got got' : List ℕ → Type 0) (went : Told (List ℕ)) (gain : List ℕ) (out : Mark) : Type 0 where
+pub record PostsOn (a b : Exit) (old new : Moment) (got got' : Got) (went : Told (List ℕ)) (gain : List ℕ) (out : Mark) : Type 0 where
   pub taken : List Message
   pub posted : List Message
   pub end : EndGrows a.below b.below taken posted
@@ -173,12 +175,12 @@ pub record PostsOn (a b : Exit) (old new : Moment) (got got' : List ℕ → Type
   pub sink : b.sink ≡ a.sink
 
 -- what went out
-pub data GoesOut (a b : Exit) (old new : Moment) (got got' : List ℕ → Type 0) (went : Told (List ℕ)) (gain : List ℕ) (out : Mark) : Type 0 where
+pub data GoesOut (a b : Exit) (old new : Moment) (got got' : Got) (went : Told (List ℕ)) (gain : List ℕ) (out : Mark) : Type 0 where
   ToOutput : feeds_edge a.output ≡ false → ToGoes a b old new got got' went gain out → GoesOut a b old new got got' went gain out
   ToEdge : feeds_edge a.output ≡ true → PostsOn a b old new got got' went gain out → GoesOut a b old new got got' went gain out
 
 -- The node goes from a to b: so much came in, and went through its stages to what went out and what lies in it, whole, or was lost from some place on
-pub record Went (a b : Node) (old new : Moment) (got got' : List ℕ → Type 0) : Type 0 where
+pub record Went (a b : Node) (old new : Moment) (got got' : Got) : Type 0 where
   pub read : Told (List ℕ)
   pub went : Told (List ℕ)
   pub gain : List ℕ

@@ -8,7 +8,7 @@ ghost use Rattle.ws_node.specs.Hears.{Hears, MayHear};
 ghost use Rattle.ws_node.specs.Host.{GivesPiece};
 ghost use Rattle.ws_steps.specs.Histories.{is_same};
 ghost use Rattle.ws_steps.specs.declared.calls.HostCall.TheVariants as host_call;
-ghost use Rattle.ws_node.specs.Moves.{Answers, Asks, DrawsNear, Enqueues, Fails, Finishes, Flushes, MayAnswer, MayTake, PutsOut, Reads, Takes, Writes, fails, finishes_by, is_sink, settles, settles_by, takes_chunk, transforms_by, writes_by};
+ghost use Rattle.ws_node.specs.Moves.{Answers, Asks, DrawsNear, Empties, Enqueues, Fails, Finishes, Flushes, MayAnswer, MayTake, PutsOut, Reads, Takes, Writes, fails, finishes_by, is_sink, settles, settles_by, takes_chunk, transforms_by, writes_by};
 ghost use Rattle.ws_node.specs.Node.{is_busy, is_reached, stage_of};
 ghost use Rattle.ws_node.specs.Past.{Driven, HasCounts};
 ghost use Rattle.ws_node.specs.Turns.{GivesHeard, HasHeard, IsBegun, NoneHeard, SameEnds};
@@ -119,6 +119,7 @@ impl Node {
             return false;
         };
         self.hear_of(event, output);
+        self.empty_before_read(input, output);
         self.read(alloc, input);
         true
     }
@@ -166,6 +167,39 @@ impl Node {
         ensures { Asks (fails id fault) self.old self.new }
     {
         self.ask(Call::Settle(id, Answer::Fail(Plain::Fault(fault))))
+    }
+
+    /// Writes what the output holds back. An output for which that fails takes no more.
+    pub fn empty<K: Sink>(&mut self, output: &mut K)
+        ensures { Empties self.old self.new
+            (record { faults = K.faults output.old; finished = K.finished output.old })
+            (record { faults = K.faults output.new; finished = K.finished output.new })
+            (K.got output.old) (K.got output.new) }
+    {
+        if self.core.stopped.is_some() {
+            return;
+        }
+        if !self.exit.output.is_open() {
+            return;
+        }
+        match output.flush() {
+            Ok(()) => {}
+            Err(Failed) => self.exit.output = Output::Failed,
+        }
+    }
+
+    /// The same, where the input is to be read and would ask the system for more: nobody else writes what is held
+    /// while that isn't there.
+    fn empty_before_read<S: Source, K: Sink>(&mut self, input: &S, output: &mut K)
+        ensures { Empties self.old self.new
+            (record { faults = K.faults output.old; finished = K.finished output.old })
+            (record { faults = K.faults output.new; finished = K.finished output.new })
+            (K.got output.old) (K.got output.new) }
+    {
+        if self.entrance.ahead > 0 || self.entrance.asked.is_none() || input.ready() > 0 {
+            return;
+        }
+        self.empty(output)
     }
 
     /// Answers the pull that waits by one read of the input, once all that was read before was had. An input that

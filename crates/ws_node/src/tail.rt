@@ -65,6 +65,15 @@ impl Tail {
         self.node.turn(alloc, &mut Nothing, output)
     }
 
+    /// Writes what the output holds back. Where that fails, the output takes no more.
+    pub fn empty<K: Sink>(&mut self, output: &mut K)
+        ensures { TailGoes (moment 0 None (K.faults output.old) (K.finished output.old))
+            (moment 0 None (K.faults output.new) (K.finished output.new))
+            (K.got output.old) (K.got output.new) self.old self.new }
+    {
+        self.node.empty(output)
+    }
+
     /// How many messages it has posted.
     pub fn posted(&self) -> u64
         ensures { result ≡ length (sent_at self.now.entrance.above) }

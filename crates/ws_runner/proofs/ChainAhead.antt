@@ -1,6 +1,7 @@
 -- How far the first node of a run is ahead of the first edge.
-use Rattle.std.proofs.Common.{◌≡◌, ℕ, List, [], ◌∷◌, map, refl, ap, ◌∙◌}
+use Rattle.std.proofs.Common.{◌≡◌, List, [], ◌∷◌, map, refl, ap, ◌∙◌}
 use Rattle.ws_flow.specs.declared.plan.Plan.{Plan}
+use Rattle.ws_io.specs.Gain.{Got}
 use Rattle.ws_io.specs.Moment.{Moment}
 use Rattle.ws_io.specs.declared.status.Status.{Status}
 use Rattle.ws_stages.specs.State.{State}
@@ -32,7 +33,7 @@ next : (upper last : Node) (ns : List Node) → Driven last → AllHaveMet upper
 next upper last [] d h = record { lower = last; driven = d; met = has-met upper last h }
 next upper last (n ∷ ns) d h = record { lower = n; driven = h.1; met = has-met upper n h.0 }
 
-module _ (plan : Plan) (s : Status) (a b : Nodes) (old new : Moment) (got got' : List ℕ → Type 0) (h : HasEnded plan s a b old new got got') where
+module _ (plan : Plan) (s : Status) (a b : Nodes) (old new : Moment) (got got' : Got) (h : HasEnded plan s a b old new got got') where
   begun : IsHead a.head
   begun = record {
     from = ap is_edge h.begun.head.input;
@@ -51,5 +52,5 @@ module _ (plan : Plan) (s : Status) (a b : Nodes) (old new : Moment) (got got' :
         near = each_joined_head_reads_little_ahead b.head below.lower h.head below.driven head below.met;
       }
 
-pub chain-reads : {K : Type 0} (got : K → List ℕ → Type 0) → EachChainReadsLittleAhead got
+pub chain-reads : {K : Type 0} (got : K → Got) → EachChainReadsLittleAhead got
 chain-reads got plan s a b old new k₀ k₁ h = reads plan s a b old new (got k₀) (got k₁) h

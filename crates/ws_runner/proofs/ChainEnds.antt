@@ -20,6 +20,7 @@ use Rattle.ws_flow.specs.Stages.{machines}
 use Rattle.ws_flow.specs.Told.{bytes_of, Mark, Open as MayCome, Closed, Broken as BrokenOff, Lost, Told, told, then_told}
 use Rattle.ws_flow.proofs.Lengths.{accepted}
 use Rattle.ws_flow.proofs.Told.{before_of_short}
+use Rattle.ws_io.specs.Gain.{Got}
 use Rattle.ws_io.specs.Faults.{Rose}
 use Rattle.ws_io.specs.Moment.{Moment}
 use Rattle.ws_io.specs.declared.status.Status.{Status}
@@ -49,6 +50,7 @@ use Rattle.ws_node.specs.Nodes.{Each, AllHaveMet, AreNewFrom, HeadGoes, MiddleGo
 use Rattle.ws_node.specs.Past.{Driven, HasCounts, IsNew}
 use Rattle.ws_node.specs.Shares.{head_of, middle_of, shared, stages_ahead_of, tail_of}
 use Rattle.ws_node.specs.Went.{edge_after, EdgeGoes, FromGoes, InputGoes, OutputGoes, ToGoes}
+use Rattle.ws_node.proofs.Finish.{output-later}
 use Rattle.ws_node.proofs.Passing.{Between, first_node, node_between, last_node, nodes_on, SendsFairly, Starts, Passes, Stops, PassOn, tell}
 use Rattle.ws_node.proofs.Sharing.{none-shared}
 use Rattle.ws_node.proofs.SinceNew.{finds_of, inside_of, failed-is, long-is, write-is, edge-unfailed, edge-short, own-stage, has_failed, is_too_long, is_failed, passed-on, sends-fairly, by-input, by-edge, to-output, to-edge, flows-since, first-since, went-since, came-since}
@@ -75,6 +77,27 @@ same-status Undefined = refl
 same-status (Number k) = refl
 same-status (Pair t) = refl
 same-status (Local k) = refl
+
+pub not-done : (r : Plain) → run_ends.status_of r ≡ status.Done → ⊥
+not-done (FaultReason fault.Read) e = cc
+not-done (FaultReason fault.Write) e = cc
+not-done (FaultReason fault.TooMuch) e = cc
+not-done (FaultReason (fault.Stage index code place)) e = cc
+not-done (FaultReason fault.Abort) e = cc
+not-done (FaultReason fault.NoMemory) e = cc
+not-done (FaultReason fault.TypeError) e = cc
+not-done (FaultReason fault.RangeError) e = cc
+not-done (FaultReason fault.DataClone) e = cc
+not-done (FaultReason (fault.User k)) e = cc
+not-done Undefined e = cc
+not-done (Number k) e = cc
+not-done (Pair t) e = cc
+not-done (Local k) e = cc
+
+-- a node that ended as a complete run does has finished the output
+done-by : (n : Node) (s : Status) → s ≡ status.Done → EndedBy s n → n.exit.output ≡ output.Finished
+done-by n s e (Own by) = subst (λ (t : Status). EndsBy t n) e by
+done-by n s e (Passed r c other f) = absurd (not-done r (sym (same-status r) ∙ (sym f ∙ e)))
 
 abbrev came_to : Node → List Plain
 came_to n = reasons_in (fairly (received_at n.entrance.above))
@@ -146,7 +169,7 @@ module _ (rules : EachNodeSendsDown) where
         sends = sends-fairly (middle_of worker plan).stages b still (rules b d still);
       }
 
-pub stops : (plan : Plan) (first : ℕ) (old new : Moment) (got got' : List ℕ → Type 0) (a b : Node) (n : IsNew (tail_of plan) first plan.abort_after a) (w : TailGoes old new got got' a b)
+pub stops : (plan : Plan) (first : ℕ) (old new : Moment) (got got' : Got) (a b : Node) (n : IsNew (tail_of plan) first plan.abort_after a) (w : TailGoes old new got got' a b)
     (last : List Plain) → All (HasCause (finds_of b) (parts b) (came_to b)) last
     → Stops plan.abort_after (inside_of (tail_of plan).stages b) (received_at b.entrance.above) (told w.gain w.out) last
 stops plan first old new got got' a b n w last causes =
@@ -303,7 +326,7 @@ within (Some x) gain h = h
 
 -- The run
 
-module _ (rules : EachNodeSendsDown) (plan : Plan) (s : Status) (a b : Nodes) (old new : Moment) (got got' : List ℕ → Type 0) (acc : flow.IsAccepted plan)
+module _ (rules : EachNodeSendsDown) (plan : Plan) (s : Status) (a b : Nodes) (old new : Moment) (got got' : Got) (acc : flow.IsAccepted plan)
     (some : int_le plan.workers (pos 0) ≡ false) (h : HasEnded plan s a b old new got got') where
   abbrev ps : List Placed
   ps = plan.stages.items
@@ -461,10 +484,13 @@ module _ (rules : EachNodeSendsDown) (plan : Plan) (s : Status) (a b : Nodes) (o
       abort = within plan.abort_after tail-went.gain ends-so.abort;
       allowed = allows s plan read.mark old new (concat read.items) tail-went.gain ends-so.allowed;
       finish_kept = leaves s old new ends-so.finish_kept;
+      later =
+          output-later a.tail.exit.output b.tail.exit.output tail-went.gain tail-went.out (of_output old) (of_output new) h.begun.tail.output out.output;
+      emptied = λ e. out.emptied h.begun.tail.output (done-by b.tail s e h.status_is.by);
     },
     refl,
     refl,
   )
 
-pub chain-ends : EachNodeSendsDown → {K : Type 0} (got : K → List ℕ → Type 0) → EachChainEnds got
+pub chain-ends : EachNodeSendsDown → {K : Type 0} (got : K → Got) → EachChainEnds got
 chain-ends rules got plan s a b old new k₀ k₁ acc some h = (ends-of rules plan s a b old new (got k₀) (got k₁) (accepted plan acc) some h).0

@@ -9,6 +9,7 @@ use Rattle.ws_flow.specs.declared.plan.Plan.{Plan}
 use Rattle.ws_flow.specs.Laws as flow
 use Rattle.ws_flow.specs.Told.{Told}
 use Rattle.ws_flow.proofs.Lengths.{accepted}
+use Rattle.ws_io.specs.Gain.{Got}
 use Rattle.ws_io.specs.Moment.{Moment}
 use Rattle.ws_io.specs.declared.status.Status.{Status}
 use Rattle.ws_joined_laws.specs.Finished.{IsFoundFor, NodesTell}
@@ -50,7 +51,7 @@ rejected-known : (after : Option ℤ) (taken : Told ℕ) (ns : List joined.Node)
 rejected-known after taken ns got r t = found-known taken ns r (All-head (IsFoundFor taken ns) r [] (each-run-of-nodes-ends after taken ns got (r ∷ []) t).reasons)
 
 -- a reason has its cause in the last node, or came to it from those before
-module _ (rules : EachNodeSendsDown) (plan : Plan) (s : Status) (a b : Nodes) (old new : Moment) (got got' : List ℕ → Type 0) (acc : flow.IsAccepted plan)
+module _ (rules : EachNodeSendsDown) (plan : Plan) (s : Status) (a b : Nodes) (old new : Moment) (got got' : Got) (acc : flow.IsAccepted plan)
     (some : int_le plan.workers (pos 0) ≡ false) (h : HasEnded plan s a b old new got got') where
   abbrev Caused : Plain → Type 0
   Caused r = HasCause (finds_of b.tail) (parts b.tail) (reasons_in (fairly (received_at b.tail.entrance.above))) r
@@ -62,5 +63,5 @@ module _ (rules : EachNodeSendsDown) (plan : Plan) (s : Status) (a b : Nodes) (o
       (nodes-tell rules plan s a b old new got got' acc some h (r ∷ [])
       (All-cons Caused r [] (passed-on (finds_of b.tail) (parts b.tail) (reasons_in (fairly (received_at b.tail.entrance.above))) r c) (All-nil Caused)))
 
-pub chain-names : EachNodeSendsDown → {K : Type 0} (got : K → List ℕ → Type 0) → EachChainNamesItsReason got
+pub chain-names : EachNodeSendsDown → {K : Type 0} (got : K → Got) → EachChainNamesItsReason got
 chain-names rules got plan s a b old new k₀ k₁ r acc some h e = cause-known rules plan s a b old new (got k₀) (got k₁) (accepted plan acc) some h r (h.status_is.rejected r e).0

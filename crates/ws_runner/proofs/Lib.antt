@@ -9,3 +9,4 @@ pub mod Traces
 pub mod UpTo
 pub mod Whole
 pub mod Workers
+pub mod Written

@@ -4,6 +4,7 @@ use Rattle.std.specs.Prelude.{All, IfSome, is_some}
 use Rattle.std.proofs.lemmas.List.Elements.{All-nil, All-cons, All-head, All-tail, All-append}
 use Rattle.ws_edge.specs.Edge.{AtEdge}
 use Rattle.ws_flow.specs.declared.plan.Plan.{Plan}
+use Rattle.ws_io.specs.Gain.{Got}
 use Rattle.ws_io.specs.Moment.{Moment}
 use Rattle.ws_node.specs.declared.node.Node.{Node}
 use Rattle.ws_node.specs.Node.{feeds_edge, is_edge, rows_at}
@@ -39,7 +40,7 @@ each-traced trace w plan (x ∷ xs) (y ∷ ys) (n, ns) (e, es) t =
     (each-traced trace (suc w) plan xs ys ns es (All-tail (AreTraced trace) x xs t))
 
 -- over any turns of the nodes
-pub traced-later : (trace : Bool) (plan : Plan) (a b : Nodes) (m₀ m₁ : Moment) (p q : List ℕ → Type 0) → AreNew plan a → AllGo a b m₀ m₁ p q → AllTraced trace a → AllTraced trace b
+pub traced-later : (trace : Bool) (plan : Plan) (a b : Nodes) (m₀ m₁ : Moment) (p q : Got) → AreNew plan a → AllGo a b m₀ m₁ p q → AllTraced trace a → AllTraced trace b
 traced-later trace plan a b m₀ m₁ p q n g t = record {
   head = same-traced a.head.exit.below b.head.exit.below trace (below-rows a.head b.head (of_input m₀) (of_input m₁) any_bytes any_bytes (ap feeds_edge n.head.output) g.head) t.head;
   middles = each-traced trace 1 plan a.middles b.middles n.middles g.middles t.middles;
@@ -53,7 +54,7 @@ each-length (x ∷ xs) [] e = absurd e
 each-length (x ∷ xs) (y ∷ ys) e = ap suc (each-length xs ys e.1)
 
 -- and there are as many
-pub many-later : (plan : Plan) (a b : Nodes) (m₀ m₁ : Moment) (p q : List ℕ → Type 0) → AreNew plan a → AllGo a b m₀ m₁ p q → length b.middles ≡ nat_abs plan.workers
+pub many-later : (plan : Plan) (a b : Nodes) (m₀ m₁ : Moment) (p q : Got) → AreNew plan a → AllGo a b m₀ m₁ p q → length b.middles ≡ nat_abs plan.workers
 many-later plan a b m₀ m₁ p q n g = each-length a.middles b.middles g.middles ∙ n.many
 
 -- the loop that makes a node for each worker

@@ -3,15 +3,12 @@ use Rattle.std.proofs.Common.{◌≡◌, ◌≢◌, ◌+◌, ◌≤◌, ℕ, suc
 use Rattle.std.specs.Prelude.{All, int_le}
 use Rattle.std.specs.List.{concat}
 use Rattle.std.proofs.lemmas.List.Elements.{All-nil, All-cons}
-use Rattle.ws_value.specs.declared.fault.Fault.TheVariants as fault
 use Rattle.ws_value.specs.declared.value.Message.{Message}
 use Rattle.ws_value.specs.declared.value.Plain.{Plain}
-use Rattle.ws_value.specs.declared.value.Plain.TheVariants.{Undefined, Number, Fault as FaultReason, Pair, Local}
 use Rattle.ws_edge.specs.declared.mark.Mark.{Mark}
 use Rattle.ws_edge.specs.Edge.{AtEdge}
 use Rattle.ws_edge.specs.Marks.{marks_of}
 use Rattle.ws_flow.specs.declared.plan.Plan.{Plan}
-use Rattle.ws_flow.specs.declared.plan.Stage.{Stage}
 use Rattle.ws_flow.specs.Laws as flow
 use Rattle.ws_flow.specs.Machines.{all_through}
 use Rattle.ws_flow.specs.Plans.{as_one, sees_known_chunks, stages_of}
@@ -19,10 +16,10 @@ use Rattle.ws_flow.specs.Stages.{machines}
 use Rattle.ws_flow.specs.Told.{bytes_of, Mark as Ending, Closed, Told, told}
 use Rattle.ws_flow.proofs.Cutting.{same_cut, some_joined}
 use Rattle.ws_flow.proofs.Lengths.{accepted}
+use Rattle.ws_io.specs.Gain.{Got}
 use Rattle.ws_io.specs.Moment.{Moment}
 use Rattle.ws_io.specs.declared.status.Status.{Status}
 use Rattle.ws_io.specs.declared.status.Status.TheVariants as status
-use Rattle.ws_joined_laws.specs.RunEnds as run_ends
 use Rattle.ws_joined_laws.specs.RunEnds.{IsStatus, Complete, Rejected, Wanting}
 use Rattle.ws_node_laws.specs.Edges as edges
 use Rattle.ws_node.specs.declared.node.Node.{Node}
@@ -47,7 +44,7 @@ use Rattle.ws_runner.specs.Trace as trace
 use Rattle.ws_runner.specs.Trace.{AreWhole, Finishes, HasEdges, IsLegal, IsWhole, KeepsCredit, OfFirst, OfLast, bytes_in, bytes_made, received_above, received_below, stages_up_to}
 use Rattle.ws_runner.proofs.ChainAhead.{reads}
 use Rattle.ws_runner.proofs.ChainEnds as chain
-use Rattle.ws_runner.proofs.ChainEnds.{betweens}
+use Rattle.ws_runner.proofs.ChainEnds.{betweens, not-done}
 use Rattle.ws_runner.proofs.Marks.{asks-marks, bytes-fair, bytes-marks, chunks-marks, close-marks, down-marks, marks-front, marks-length, pulls-marks, up-marks}
 use Rattle.ws_runner.proofs.Traced.{traces-many}
 use Rattle.ws_runner.proofs.UpTo.{known-up-to, next-stages, no-stages}
@@ -173,28 +170,12 @@ module _ (plan : Plan) (high : ℕ) (placed : ArePlaced 0 high plan.stages.items
         (subst (λ ss. AllAt ss read (sent_at n.exit.below) (betweens (suc (suc w)) plan ns) (received_at lower)) (sym (next-stages w high plan placed)) rest) ts,
   )
 
-not-done : (r : Plain) → run_ends.status_of r ≡ status.Done → ⊥
-not-done (FaultReason fault.Read) e = cc
-not-done (FaultReason fault.Write) e = cc
-not-done (FaultReason fault.TooMuch) e = cc
-not-done (FaultReason (fault.Stage index code place)) e = cc
-not-done (FaultReason fault.Abort) e = cc
-not-done (FaultReason fault.NoMemory) e = cc
-not-done (FaultReason fault.TypeError) e = cc
-not-done (FaultReason fault.RangeError) e = cc
-not-done (FaultReason fault.DataClone) e = cc
-not-done (FaultReason (fault.User k)) e = cc
-not-done Undefined e = cc
-not-done (Number k) e = cc
-not-done (Pair t) e = cc
-not-done (Local k) e = cc
-
 done-closed : (m : Ending) (last : List Plain) (s : Status) → IsStatus m last s → s ≡ status.Done → m ≡ Closed
 done-closed m last s (Complete c e) d = c
 done-closed m last s (Rejected r c h e) d = absurd (not-done r (sym e ∙ d))
 done-closed m last s (Wanting c e) d = absurd (cc)
 
-module _ (rules : EachNodeSendsDown) (plan : Plan) (s : Status) (a b : Nodes) (old new : Moment) (got got' : List ℕ → Type 0) (acc : flow.IsAccepted plan)
+module _ (rules : EachNodeSendsDown) (plan : Plan) (s : Status) (a b : Nodes) (old new : Moment) (got got' : Got) (acc : flow.IsAccepted plan)
     (some : int_le plan.workers (pos 0) ≡ false) (h : HasEnded plan s a b old new got got') where
   abbrev high : ℕ
   high = nat_abs plan.workers
@@ -321,7 +302,7 @@ no-edges es plan traced s taken gain e some = subst (λ q. HasEdges q plan trace
   written = tt;
 })
 
-has-edges : (rules : EachNodeSendsDown) (plan : Plan) (s : Status) (a b : Nodes) (old new : Moment) (got got' : List ℕ → Type 0) (acc : IsAccepted plan) (some : int_le plan.workers (pos 0) ≡ false)
+has-edges : (rules : EachNodeSendsDown) (plan : Plan) (s : Status) (a b : Nodes) (old new : Moment) (got got' : Got) (acc : IsAccepted plan) (some : int_le plan.workers (pos 0) ≡ false)
     (h : HasEnded plan s a b old new got got') (traced : Bool) (es : List EdgeTrace) → TracesAre traced b.head.exit.below b.middles b.tail.entrance.above es
     → HasEdges es plan traced s (concat h.went.head.read.items) h.went.tail.gain
 has-edges rules plan s a b old new got got' acc some h true es t = traced-edges rules plan s a b old new got got' (accepted plan acc) some h es t
@@ -330,7 +311,7 @@ has-edges rules plan s a b old new got got' acc some h false es t = no-edges es 
 -- How runs finish
 
 -- one with workers
-pub chain-finishes : (rules : EachNodeSendsDown) (plan : Plan) (f : Finished) (a b : Nodes) (old new : Moment) (got got' : List ℕ → Type 0) → IsAccepted plan → int_le plan.workers (pos 0) ≡ false
+pub chain-finishes : (rules : EachNodeSendsDown) (plan : Plan) (f : Finished) (a b : Nodes) (old new : Moment) (got got' : Got) → IsAccepted plan → int_le plan.workers (pos 0) ≡ false
     → HasEnded plan f.status a b old new got got' → (traced : Bool) → TracesAre traced b.head.exit.below b.middles b.tail.entrance.above f.edges.items → Finishes f plan traced old new got got'
 chain-finishes rules plan f a b old new got got' acc some h traced t =
     let e = chain.ends-of rules plan f.status a b old new got got' (accepted plan acc) some h in
@@ -343,13 +324,13 @@ chain-finishes rules plan f a b old new got got' acc some h traced t =
     }
 
 -- one that found no memory before its first turn
-pub none-finishes : (plan : Plan) (f : Finished) (traced : Bool) (m : Moment) (p : List ℕ → Type 0) → f.status ≡ status.NoMemory → f.edges.items ≡ [] → Finishes f plan traced m m p p
+pub none-finishes : (plan : Plan) (f : Finished) (traced : Bool) (m : Moment) (p : Got) → f.status ≡ status.NoMemory → f.edges.items ≡ [] → Finishes f plan traced m m p p
 none-finishes plan f traced m p e none =
     let ends : Ends f.status plan m m p p = subst (λ s. Ends s plan m m p p) (sym e) (ends-at_once plan m p) in
     record { ends = ends; edges = no-edges f.edges.items plan traced f.status ends.taken ends.gain none (λ t w k. k e) }
 
 -- one without workers
-pub whole-finishes : (plan : Plan) (f : Finished) (traced : Bool) (old new : Moment) (got got' : List ℕ → Type 0) → Ends f.status plan old new got got' → f.edges.items ≡ []
+pub whole-finishes : (plan : Plan) (f : Finished) (traced : Bool) (old new : Moment) (got got' : Got) → Ends f.status plan old new got got' → f.edges.items ≡ []
     → int_le plan.workers (pos 0) ≡ true → Finishes f plan traced old new got got'
 whole-finishes plan f traced old new got got' ends none alone =
     record { ends = ends; edges = no-edges f.edges.items plan traced f.status ends.taken ends.gain none (λ t w k. absurd (cc)) }

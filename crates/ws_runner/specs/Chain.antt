@@ -1,11 +1,12 @@
 -- How a run with workers ends, by how its nodes went, what they sent each other, and the status of the last one.
-use Rattle.std.specs.Prelude.{◌≡◌, ◌⊎◌, ◌+◌, ◌≤◌, ℕ, pos, int_le, false, length, List, Some}
+use Rattle.std.specs.Prelude.{◌≡◌, ◌⊎◌, ◌+◌, ◌≤◌, pos, int_le, false, length, Some}
 use Rattle.std.specs.List.{concat}
 use Rattle.ws_value.specs.declared.fault.Fault.TheVariants.{NoMemory}
 use Rattle.ws_value.specs.declared.value.Outcome.TheVariants.{Rejected}
 use Rattle.ws_value.specs.declared.value.Plain.{Plain}
 use Rattle.ws_value.specs.declared.value.Plain.TheVariants.{Fault as FaultReason}
 use Rattle.ws_flow.specs.declared.plan.Plan.{Plan}
+use Rattle.ws_io.specs.Gain.{Got}
 use Rattle.ws_io.specs.Moment.{Moment}
 use Rattle.ws_io.specs.declared.status.Status.{Status}
 use Rattle.ws_node.specs.Ends.{Ends, EndsAs, IsNamed}
@@ -16,7 +17,7 @@ use Rattle.ws_node.specs.Past.{Driven}
 use Rattle.ws_node.specs.Rules.{pieces_in}
 
 -- the nodes of a run, from their making to its end, and its status
-pub record HasEnded (plan : Plan) (status : Status) (a b : Nodes) (old new : Moment) (got got' : List ℕ → Type 0) : Type 0 where
+pub record HasEnded (plan : Plan) (status : Status) (a b : Nodes) (old new : Moment) (got got' : Got) : Type 0 where
   pub begun : AreNew plan a
   pub went : AllGo a b old new got got'
   pub met : AllHaveMet b.head.exit.below b.middles b.tail.entrance.above
@@ -25,13 +26,13 @@ pub record HasEnded (plan : Plan) (status : Status) (a b : Nodes) (old new : Mom
   pub status_is : EndsAs (Some status) b.tail
 
 -- `got` tells for what lists each output stands
-abbrev pub EachChainEnds : {K : Type 0} → (K → List ℕ → Type 0) → Type 0
+abbrev pub EachChainEnds : {K : Type 0} → (K → Got) → Type 0
 EachChainEnds {K} got =
     (plan : Plan) (status : Status) (a b : Nodes) (old new : Moment) (k₀ k₁ : K) → IsAccepted plan → int_le plan.workers (pos 0) ≡ false
     → HasEnded plan status a b old new (got k₀) (got k₁) → Ends status plan old new (got k₀) (got k₁)
 
 -- the pipe of its last node may be rejected with a named reason, or since no memory was to be had
-abbrev pub EachChainNamesItsReason : {K : Type 0} → (K → List ℕ → Type 0) → Type 0
+abbrev pub EachChainNamesItsReason : {K : Type 0} → (K → Got) → Type 0
 EachChainNamesItsReason {K} got =
     (plan : Plan) (status : Status) (a b : Nodes) (old new : Moment) (k₀ k₁ : K) (r : Plain) → IsAccepted plan → int_le plan.workers (pos 0) ≡ false
     → HasEnded plan status a b old new (got k₀) (got k₁) → outcome_of_pipe b.tail.core ≡ Some (Rejected r) → IsNamed r ⊎ (r ≡ FaultReason NoMemory)
@@ -41,6 +42,6 @@ pub record ReadsLittleAhead (ns : Nodes) : Type 0 where
   pub part : length (concat (pieces_in (sent_at ns.head.exit.below))) ≤ ns.head.entrance.taken
   pub near : ns.head.entrance.taken ≤ length (concat (pieces_in (sent_at ns.head.exit.below))) + 8192
 
-abbrev pub EachChainReadsLittleAhead : {K : Type 0} → (K → List ℕ → Type 0) → Type 0
+abbrev pub EachChainReadsLittleAhead : {K : Type 0} → (K → Got) → Type 0
 EachChainReadsLittleAhead {K} got =
     (plan : Plan) (status : Status) (a b : Nodes) (old new : Moment) (k₀ k₁ : K) → HasEnded plan status a b old new (got k₀) (got k₁) → ReadsLittleAhead b

@@ -3,3 +3,4 @@ pub mod Meeting
 pub mod Place
 pub mod Ready
 pub mod Trace
+pub mod Written

@@ -1,5 +1,6 @@
 -- The nodes of workers, while each is with its worker's thread or with the caller.
-use Rattle.std.specs.Prelude.{◌≡◌, ℕ, List, Some}
+use Rattle.std.specs.Prelude.{◌≡◌, List, Some}
+use Rattle.ws_io.specs.Gain.{Got}
 use Rattle.ws_io.specs.Moment.{Moment}
 use Rattle.ws_io.specs.declared.status.Status.{Status}
 use Rattle.ws_node.specs.declared.node.Node.{Node}
@@ -25,6 +26,6 @@ abbrev pub Yields : Place → Node → Type 0
 Yields p n = (a : Node) → IsPlaceOf a p → MiddleGoes a n
 
 -- the nodes of a run went on until all were over, and the last one has this status
-pub record HaveGone (a b : Nodes) (status : Status) (old new : Moment) (got got' : List ℕ → Type 0) : Type 0 where
+pub record HaveGone (a b : Nodes) (status : Status) (old new : Moment) (got got' : Got) : Type 0 where
   pub went : AllGo a b old new got got'
   pub status_is : EndsAs (Some status) b.tail

@@ -8,6 +8,7 @@ use Rattle.ws_flow.specs.declared.plan.Plan.{Plan}
 use Rattle.ws_flow.specs.declared.plan.Stage.{Stage}
 use Rattle.ws_flow.specs.Plans.{reach}
 use Rattle.ws_flow.specs.Told.{bytes_of, Closed}
+use Rattle.ws_io.specs.Gain.{Got}
 use Rattle.ws_io.specs.Moment.{Moment}
 use Rattle.ws_io.specs.declared.status.Status.{Status}
 use Rattle.ws_io.specs.declared.status.Status.TheVariants.{Done, NoMemory}
@@ -141,6 +142,6 @@ pub record HasEdges (edges : List EdgeTrace) (plan : Plan) (trace : Bool) (statu
   pub written : OfLast (λ e. length gain ≤ bytes_in (received_below e)) edges
 
 -- A run that finished so: what was read and written, its status, and its edges
-pub record Finishes (finished : Finished) (plan : Plan) (trace : Bool) (old new : Moment) (got got' : List ℕ → Type 0) : Type 0 where
+pub record Finishes (finished : Finished) (plan : Plan) (trace : Bool) (old new : Moment) (got got' : Got) : Type 0 where
   pub ends : Ends finished.status plan old new got got'
   pub edges : HasEdges finished.edges.items plan trace finished.status ends.taken ends.gain

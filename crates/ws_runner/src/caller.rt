@@ -112,6 +112,19 @@ fn turn_tail<K: Sink>(
     Round::of(turn)
 }
 
+/// Writes what the output holds back before a turn of the first node that may ask the system for more input: while it
+/// waits, nobody else writes that.
+fn empty_before_read<S: Source, K: Sink>(over: bool, input: &S, tail: &mut Tail, output: &mut K)
+    ensures { TailGoes (moment 0 None (K.faults output.old) (K.finished output.old))
+        (moment 0 None (K.faults output.new) (K.finished output.new))
+        (K.got output.old) (K.got output.new) tail.old tail.new }
+{
+    if over || input.ready() > 0 {
+        return;
+    }
+    tail.empty(output)
+}
+
 /// A turn of the node at this place, unless it is over or its worker has it. The worker's number and that of the turn
 /// are told first.
 fn turn_place<F: Fn(u32, u64)>(
@@ -186,6 +199,7 @@ pub fn drive_rest<R: Wait, S: Source, K: Sink, F: Fn(u32, u64)>(
     let mut number = 0u64;
     for _ in rt.forever() {
         number = number.saturating_add(1);
+        empty_before_read(over.head, input, &mut chain.tail, output);
         let first = turn_head(alloc, &mut chain.head, &mut over.head, input, bells);
         let middle = turn_places(alloc, places, number, bells, enter);
         let last = turn_tail(alloc, &mut chain.tail, &mut over.tail, output, bells);

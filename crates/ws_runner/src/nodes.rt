@@ -1,9 +1,11 @@
 //! A run of a plan, from the making of its nodes to its status.
 ghost use Rattle.std.specs.Prelude.{◌≡◌, ◌+◌, ◌≤◌, [], true, false, IfOk, int_le, nat_abs, pos, vec_capacity};
+ghost use Rattle.ws_io.specs.Emptied.{LeavesNothing};
 ghost use Rattle.ws_io.specs.Moment.{moment};
 ghost use Rattle.ws_node.specs.Ends.{Ends};
 ghost use Rattle.ws_node.specs.Opening.{IsAccepted};
 ghost use Rattle.ws_runner.specs.Trace.{Finishes};
+ghost use Rattle.ws_runner.specs.Written.{IsWritten, unwritten};
 
 use crate::chain::Chain;
 use crate::ready::Ready;
@@ -12,7 +14,7 @@ use crate::trace::{EdgeTrace, Finished};
 use std::alloc::Global;
 use std::sync::{Wait, WaitMethods};
 use std::thread::Threads;
-use ws_io::{Gate, Sink, Source, Status};
+use ws_io::{Failed, Gate, Sink, Source, Status};
 use ws_node::{Turn, Whole};
 use ws_realm::NoMemory;
 use ws_stages::Plan;
@@ -38,6 +40,27 @@ pub fn run_nodes<R: Threads + Wait + Sync, S: Source, K: Sink, G: Gate>(
     trace: bool,
 ) -> Finished
     requires { IsAccepted plan.now }
+    ensures finishes { Finishes result plan.now trace
+        (moment (S.faults input.old) (S.feed input.old) (K.faults output.old) (K.finished output.old))
+        (moment (S.faults input.new) (S.feed input.new) (K.faults output.new) (K.finished output.new))
+        (K.got output.old) (K.got output.new) }
+    ensures emptied { LeavesNothing result.status (K.got output.new) }
+{
+    let finished = run_plan(rt, alloc, plan, input, output, gate, trace);
+    end(finished, output)
+}
+
+/// The same, but that the output may still hold back what was written.
+fn run_plan<R: Threads + Wait + Sync, S: Source, K: Sink, G: Gate>(
+    rt: &R,
+    alloc: Global,
+    plan: &Plan,
+    input: &mut S,
+    output: &mut K,
+    gate: &G,
+    trace: bool,
+) -> Finished
+    requires { IsAccepted plan.now }
     ensures { Finishes result plan.now trace
         (moment (S.faults input.old) (S.feed input.old) (K.faults output.old) (K.finished output.old))
         (moment (S.faults input.new) (S.feed input.new) (K.faults output.new) (K.finished output.new))
@@ -49,6 +72,36 @@ pub fn run_nodes<R: Threads + Wait + Sync, S: Source, K: Sink, G: Gate>(
     Finished {
         status: run_whole(rt, alloc, plan, input, output),
         edges: Vec::new(alloc),
+    }
+}
+
+/// The status of a run whose output couldn't be written to the end.
+fn unwritten(status: Status) -> Status
+    ensures { result ≡ unwritten status }
+{
+    match status {
+        Status::NoMemory => Status::NoMemory,
+        _ => Status::WriteFault,
+    }
+}
+
+/// Writes what the output of a run holds back, but of one that is finished, which holds nothing.
+fn end<K: Sink>(finished: Finished, output: &mut K) -> Finished
+    ensures { IsWritten finished result
+        (record { faults = K.faults output.old; finished = K.finished output.old })
+        (record { faults = K.faults output.new; finished = K.finished output.new })
+        (K.got output.old) (K.got output.new) }
+{
+    let Finished { status, edges } = finished;
+    if let Status::Done = status {
+        return Finished { status, edges };
+    }
+    match output.flush() {
+        Ok(()) => Finished { status, edges },
+        Err(Failed) => Finished {
+            status: unwritten(status),
+            edges,
+        },
     }
 }
 

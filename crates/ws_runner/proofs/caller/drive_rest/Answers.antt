@@ -17,28 +17,28 @@ loop-init g c = record {
 pub loop-preserved-in-Moved : goal.loop-preserved-in-Moved
 loop-preserved-in-Moved g c = record {
   head = went-then _ _ _ _ _ _ _ _ _ c.loop.invariant.head c.turn_head-first.ensures;
-  tail = went-then _ _ _ _ _ _ _ _ _ c.loop.invariant.tail c.turn_tail-last.ensures;
+  tail = went-then _ _ _ _ _ _ _ _ _ (went-then _ _ _ _ _ _ _ _ _ c.loop.invariant.tail c.empty_before_read.ensures) c.turn_tail-last.ensures;
   places = moves-then _ _ _ c.loop.invariant.places c.turn_places-middle.ensures;
 }
 
 pub loop-preserved-in-Still : goal.loop-preserved-in-Still
 loop-preserved-in-Still g c = record {
   head = went-then _ _ _ _ _ _ _ _ _ c.loop.invariant.head c.turn_head-first.ensures;
-  tail = went-then _ _ _ _ _ _ _ _ _ c.loop.invariant.tail c.turn_tail-last.ensures;
+  tail = went-then _ _ _ _ _ _ _ _ _ (went-then _ _ _ _ _ _ _ _ _ c.loop.invariant.tail c.empty_before_read.ensures) c.turn_tail-last.ensures;
   places = moves-then _ _ _ c.loop.invariant.places c.turn_places-middle.ensures;
 }
 
 pub loop-preserved : goal.loop-preserved
 loop-preserved g c = record {
   head = went-then _ _ _ _ _ _ _ _ _ c.loop.invariant.head c.turn_head-first.ensures;
-  tail = went-then _ _ _ _ _ _ _ _ _ c.loop.invariant.tail c.turn_tail-last.ensures;
+  tail = went-then _ _ _ _ _ _ _ _ _ (went-then _ _ _ _ _ _ _ _ _ c.loop.invariant.tail c.empty_before_read.ensures) c.turn_tail-last.ensures;
   places = moves-then _ _ _ c.loop.invariant.places c.turn_places-middle.ensures;
 }
 
 pub returns-in-Some-status : goal.returns-in-Some-status
 returns-in-Some-status g c = record {
   head = went-then _ _ _ _ _ _ _ _ _ c.loop.invariant.head c.turn_head-first.ensures;
-  tail = went-then _ _ _ _ _ _ _ _ _ c.loop.invariant.tail c.turn_tail-last.ensures;
+  tail = went-then _ _ _ _ _ _ _ _ _ (went-then _ _ _ _ _ _ _ _ _ c.loop.invariant.tail c.empty_before_read.ensures) c.turn_tail-last.ensures;
   places = moves-then _ _ _ c.loop.invariant.places c.turn_places-middle.ensures;
   status = subst (λ (status : Option Status). EndsAs status c.turn_tail-last.new.tail) c.in-Some-status.is c.status.ensures;
 }

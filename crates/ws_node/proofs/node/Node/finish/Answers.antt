@@ -8,7 +8,7 @@ returns-then-not-is_open g c =
 
 pub returns-in-Ok : goal.returns-in-Ok
 returns-in-Ok g c =
-    FinishedWell (is_open c.args.self.now.exit.output c.is_open.result c.is_open.ensures c.if-not-is_open.false) c.in-Ok.ensures.bytes c.in-Ok.ensures.cause.answered
+    FinishedWell (is_open c.args.self.now.exit.output c.is_open.result c.is_open.ensures c.if-not-is_open.false) c.in-Ok.ensures.bytes c.in-Ok.ensures.emptied c.in-Ok.ensures.cause.answered
     c.in-Ok.ensures.finished c.settle.ensures
 
 pub returns-in-Err : goal.returns-in-Err
