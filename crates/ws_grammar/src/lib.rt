@@ -13,5 +13,6 @@ mod values;
 mod words;
 
 pub use line::Line;
+pub use numbers::{number_u16, number_u32};
 pub use refused::ScriptRefused;
 pub use script::read_script;

@@ -50,6 +50,13 @@ pub fn number_u32(word: &[u8]) -> Option<u32>
     u32::try_from(number_u128(word)?).ok()
 }
 
+/// A decimal number that a `u16` can hold.
+pub fn number_u16(word: &[u8]) -> Option<u16>
+    ensures { result ≡ number_below (2 ^ 16) word.now }
+{
+    u16::try_from(number_u128(word)?).ok()
+}
+
 /// A decimal number that a `u8` can hold.
 pub fn number_u8(word: &[u8]) -> Option<u8>
     ensures { result ≡ number_below (2 ^ 8) word.now }
