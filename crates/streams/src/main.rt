@@ -3,19 +3,17 @@
 
 use std::process::ExitCode;
 use ws_cli::process;
-use ws_io::{HeldOutput, OpenGate, StdArguments, StdFiles, StdSink, StdSource};
+use ws_io::{BufferedSink, OpenGate, StdArguments, StdFiles, StdSink, StdSource};
 
 fn main(rt: HostRuntime) -> ExitCode {
-    let output = HeldOutput::over(rt.alloc(), rt.stdout());
-    let ended = process(
+    process(
         &rt,
         rt.alloc(),
         &StdArguments::over(&rt),
         &mut StdFiles::over(&rt),
-        &mut StdSource::over(output.input(rt.alloc(), rt.stdin())),
-        &mut StdSink::over(&output),
-        &mut StdSink::over(output.before(rt.stderr())),
+        &mut StdSource::ahead(rt.alloc(), rt.stdin()),
+        &mut BufferedSink::over(rt.alloc(), StdSink::over(rt.stdout())),
+        &mut StdSink::over(rt.stderr()),
         &OpenGate,
-    );
-    output.end(ended, &mut StdSink::over(rt.stderr()))
+    )
 }

@@ -1,6 +1,7 @@
 -- What a run of the plan without stages comes to: it copies its input.
 use Rattle.std.proofs.Common.{◌≡◌, ◌+◌, ◌-◌, ◌<◌, ◌≤◌, ◌^◌, ℕ, ℤ, pos, nat_abs, List, [], ◌++◌, length, length-append, sym, ◌∙◌, ap, subst, map, arith}
 use Rattle.std.specs.Prelude.{Option, None}
+use Rattle.ws_io.specs.Gain.{Got}
 use Rattle.ws_io.specs.Faults.{Calm, Rose}
 use Rattle.ws_io.specs.Moment.{Moment}
 use Rattle.ws_io.specs.declared.status.Status.{Status}
@@ -60,7 +61,7 @@ Allows-copy _ plan m old new taken gain c a = a
 rest_within : (taken gain rest : List ℕ) → taken ≡ gain ++ rest → length taken ≤ length gain + 4096 → length rest ≤ 4096
 rest_within taken gain rest e h = let l : length taken ≡ length gain + length rest = ap length e ∙ length-append gain rest in omega arith
 
-pub Copies-of : (status : Status) (plan : Plan) (old new : Moment) (p q : List ℕ → Type 0) → IsCopying plan
+pub Copies-of : (status : Status) (plan : Plan) (old new : Moment) (p q : Got) → IsCopying plan
     → Ends status plan old new p q → Copies status (2 ^ 40) 4096 old new p q
 Copies-of status plan old new p q c e =
     let none = no_stages plan c in

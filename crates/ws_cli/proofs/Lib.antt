@@ -3,4 +3,6 @@ pub mod Copying
 pub mod Loading
 pub mod Performing
 pub mod Running
+pub mod Summing
 pub mod Telling
+pub mod WorkedSummaries

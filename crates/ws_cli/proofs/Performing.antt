@@ -1,5 +1,6 @@
 -- What the words of each form perform.
 use Rattle.std.proofs.Common.{◌≡◌, inl, inr, ℕ, List, [], Option, Some, None, drop, refl, ap, ◌∙◌}
+use Rattle.ws_io.specs.Gain.{Got}
 use Rattle.ws_io.specs.Arguments.{IsTold}
 use Rattle.ws_io.specs.Moment.{Moment}
 use Rattle.ws_io.specs.declared.status.Status.{Status}
@@ -11,7 +12,7 @@ use Rattle.ws_cli.specs.Words.{IsRun, IsScript, NamesNoFile}
 
 -- other words
 pub Performs-nothing : {F S K : Type 0} (words : List (List ℕ)) (status : Status) (edges : List EdgeTrace) (files : F) (input : S) (output : K)
-    (shelf : Shelf) (old new : Moment) (p q : List ℕ → Type 0)
+    (shelf : Shelf) (old new : Moment) (p q : Got)
     → status ≡ Usage → edges ≡ [] → (IsRun words → ⊥) → (IsScript words → ⊥) → NamesNoFile words
     → Performs words status edges files files input input output output shelf shelf old new p q
 Performs-nothing words status edges files input output shelf old new p q is none no_run no_script no_file =
@@ -31,6 +32,8 @@ Performs-nothing words status edges files input output shelf old new p q is none
       script_too_long = λ s. absurd (no_script s);
       check = λ name named. absurd (no_file.0 name named);
       check_unread = λ name named. absurd (no_file.0 name named);
+      gen = λ count seed name asked. absurd (no_file.3 count seed name asked);
+      gen_unread = λ count seed name asked. absurd (no_file.3 count seed name asked);
     }
 
 -- the words after the program's name, where the arguments are told

@@ -2,6 +2,7 @@
 use Rattle.std.proofs.Common.{◌≡◌, ◌+◌, ◌-◌, ◌<◌, ◌≤◌, ◌⊎◌, inl, inr, ℕ, ℤ, nat_abs, Bool, true, false, List, [], ◌++◌, length, length-append, append-nil, refl, sym, ◌∙◌, ap, subst, map, arith}
 use Rattle.std.specs.List.{concat}
 use Rattle.std.specs.Prelude.{Option, Some, None, Ok, Err}
+use Rattle.ws_io.specs.Gain.{Got}
 use Rattle.ws_io.specs.Faults.{Calm}
 use Rattle.ws_io.specs.Feed.{Feed, Fed, HasLeft, IsEmpty}
 use Rattle.ws_io.specs.Memory.{one_more}
@@ -32,18 +33,18 @@ use Rattle.ws_cli.proofs.Copying.{fine_not_bad, not_both}
 use Rattle.ws_cli.proofs.Loading.{Accepted-none, Missing-none, Refused-none, accepted_file, no_file, no_plan, same_plan}
 
 -- what was taken is a first part of what the input had, and all of it where it was read to its end
-front_taken : (old new : Option Feed) (taken bytes : List ℕ) → HasLeft old bytes → Fed old new taken → IsFront taken bytes
+pub front_taken : (old new : Option Feed) (taken bytes : List ℕ) → HasLeft old bytes → Fed old new taken → IsFront taken bytes
 front_taken None new taken bytes has fed = absurd has
 front_taken (Some f) None taken bytes has fed = absurd fed
 front_taken (Some f) (Some g) taken bytes has fed = (g.left, sym has ∙ fed.left)
 
-all_taken : (old new : Option Feed) (taken bytes : List ℕ) → HasLeft old bytes → Fed old new taken → IsEmpty new → bytes ≡ taken
+pub all_taken : (old new : Option Feed) (taken bytes : List ℕ) → HasLeft old bytes → Fed old new taken → IsEmpty new → bytes ≡ taken
 all_taken None new taken bytes has fed none = absurd has
 all_taken (Some f) None taken bytes has fed none = absurd fed
 all_taken (Some f) (Some g) taken bytes has fed none =
     sym has ∙ fed.left ∙ ap (λ (xs : List ℕ). taken ++ xs) none ∙ append-nil taken
 
-read_before : (m : Mark) (old new : Moment) (taken bytes : List ℕ) → HasLeft old.feed bytes → Fed old.feed new.feed taken → ReadAs m old new
+pub read_before : (m : Mark) (old new : Moment) (taken bytes : List ℕ) → HasLeft old.feed bytes → Fed old.feed new.feed taken → ReadAs m old new
     → IsBefore (told taken m) (told bytes Closed)
 read_before Open old new taken bytes has fed read = front_taken old.feed new.feed taken bytes has fed
 read_before Broken old new taken bytes has fed read = elim read [ ]
@@ -73,7 +74,7 @@ cut_after taken bytes Closed (e, closed) =
     record { cut = as_one bytes Closed; before = (ap some_chunk e, refl); same = refl }
 
 -- a bad ending over what was taken is that over all
-bad_stays : (ss : List StageOf) (j : ℕ) (taken bytes : List ℕ) (m : Mark) (code place : ℕ) → sees_known_chunks false ss ≡ true
+pub bad_stays : (ss : List StageOf) (j : ℕ) (taken bytes : List ℕ) (m : Mark) (code place : ℕ) → sees_known_chunks false ss ≡ true
     → IsBefore (told taken m) (told bytes Closed) → ending (machines ss) j (as_one taken m) ≡ Bad code place
     → ending (machines ss) j (as_one bytes Closed) ≡ Bad code place
 bad_stays ss j taken bytes m code place known before bad =
@@ -82,7 +83,7 @@ bad_stays ss j taken bytes m code place known before bad =
     ∙ ending_stays (machines ss) j (as_one taken m) c.cut (Bad code place) c.before bad (λ fine. cc)
 
 -- what comes out of what was taken is a first part of what comes out of all
-out_front : (ss : List StageOf) (taken bytes : List ℕ) (m : Mark) → sees_known_chunks false ss ≡ true
+pub out_front : (ss : List StageOf) (taken bytes : List ℕ) (m : Mark) → sees_known_chunks false ss ≡ true
     → IsBefore (told taken m) (told bytes Closed)
     → IsFront (bytes_of (reach ss taken m)).items (bytes_of (reach ss bytes Closed)).items
 out_front ss taken bytes m known before =
@@ -92,7 +93,7 @@ out_front ss taken bytes m known before =
     (bytes_before (reach ss taken m) (all_through (machines ss) c.cut) (all_before (machines ss) (as_one taken m) c.cut c.before)))
 
 -- a plan that is read as another takes what that takes
-Fine-for-same : (plan other : Plan) (bytes : List ℕ) → planned_as plan ≡ planned_as other → IsFineFor other bytes → IsFineFor plan bytes
+pub Fine-for-same : (plan other : Plan) (bytes : List ℕ) → planned_as plan ≡ planned_as other → IsFineFor other bytes → IsFineFor plan bytes
 Fine-for-same plan other bytes same f =
     let stages : stages_of plan ≡ stages_of other = ap (λ (p : Planned). map (λ s. s.stage) p.stages) same in
     let most : plan.max_input ≡ other.max_input = ap (λ (p : Planned). p.max_input) same in
@@ -101,7 +102,7 @@ Fine-for-same plan other bytes same f =
       fine = λ j. ap (λ (ss : List StageOf). ending (machines ss) j (as_one bytes Closed)) stages ∙ f.fine j;
     }
 
-Unaborted-same : (plan other : Plan) (bytes : List ℕ) → planned_as plan ≡ planned_as other
+pub Unaborted-same : (plan other : Plan) (bytes : List ℕ) → planned_as plan ≡ planned_as other
     → IsUnaborted other.abort_after (length (out_of other bytes Closed).items) → IsUnaborted plan.abort_after (length (out_of plan bytes Closed).items)
 Unaborted-same plan other bytes same u =
     let abort : plan.abort_after ≡ other.abort_after = ap (λ (p : Planned). p.abort_after) same in
@@ -110,7 +111,7 @@ Unaborted-same plan other bytes same u =
     subst (λ (o : Option ℤ). IsUnaborted o (length (out_of plan bytes Closed).items)) (sym abort)
     (subst (λ (n : ℕ). IsUnaborted other.abort_after n) (sym out) u)
 
-front_length : (xs ys : List ℕ) → IsFront xs ys → length xs ≤ length ys
+pub front_length : (xs ys : List ℕ) → IsFront xs ys → length xs ≤ length ys
 front_length xs ys (rest, e) = let l : length ys ≡ length xs + length rest = ap length e ∙ length-append xs rest in omega arith
 
 -- where nothing fails, an input that the plan takes whole is read to its end, or the run is aborted, or memory can't be had
@@ -133,7 +134,7 @@ Whole-by (Stage index code place) plan m old new taken gain bytes a known before
     (bad_stays (stages_of plan) (index - 1) taken bytes m code place known before a.bad))
 Whole-by _ plan m old new taken gain bytes a known before front f read write = absurd a
 
-Whole : (status : Status) (plan : Plan) (old new : Moment) (p q : List ℕ → Type 0) (bytes : List ℕ) → Ends status plan old new p q
+Whole : (status : Status) (plan : Plan) (old new : Moment) (p q : Got) (bytes : List ℕ) → Ends status plan old new p q
     → refusal plan ≡ None → HasLeft old.feed bytes → IsFineFor plan bytes
     → Calm old.read_faults new.read_faults → Calm old.write_faults new.write_faults
     → (status ≡ Done) ⊎ (status ≡ Aborted) ⊎ (status ≡ NoMemory)
@@ -142,12 +143,12 @@ Whole status plan old new p q bytes e ok has f read write =
     (read_before e.mark old new e.taken bytes has e.fed e.read) (front_taken old.feed new.feed e.taken bytes has e.fed) f read write
 
 -- and it isn't aborted where too little comes out
-not_aborted : (after : Option ℤ) (gain : List ℕ) (n : ℕ) → IsAborted after gain → IsUnaborted after n → length gain ≤ n → ⊥
+pub not_aborted : (after : Option ℤ) (gain : List ℕ) (n : ℕ) → IsAborted after gain → IsUnaborted after n → length gain ≤ n → ⊥
 not_aborted None gain n a u within = a
 not_aborted (Some after) gain n a u within =
     let reached : nat_abs after ≤ length gain = a in let short : n < nat_abs after = u in omega arith
 
-Unaborted-by : (status : Status) (plan : Plan) (old new : Moment) (p q : List ℕ → Type 0) (bytes : List ℕ) → Ends status plan old new p q
+Unaborted-by : (status : Status) (plan : Plan) (old new : Moment) (p q : Got) (bytes : List ℕ) → Ends status plan old new p q
     → refusal plan ≡ None → HasLeft old.feed bytes → IsUnaborted plan.abort_after (length (out_of plan bytes Closed).items)
     → (status ≡ Done) ⊎ (status ≡ Aborted) ⊎ (status ≡ NoMemory) → (status ≡ Done) ⊎ (status ≡ NoMemory)
 Unaborted-by Done plan old new p q bytes e ok has u three = inl refl
@@ -160,7 +161,7 @@ Unaborted-by _ plan old new p q bytes e ok has u three = elim three [ inl is ↦
 
 -- a run of the plan of the file, and a file without a plan
 pub Performs-ran : {S K : Type 0} (status : Status) (edges : List EdgeTrace) (trace : Bool) (name : List ℕ) (input input' : S) (output output' : K)
-    (files files' : Shelf) (old new : Moment) (p q : List ℕ → Type 0) (plan : Plan) → files'.loads ≡ one_more files.loads
+    (files files' : Shelf) (old new : Moment) (p q : Got) (plan : Plan) → files'.loads ≡ one_more files.loads
     → Loads (Ok plan) name files files' → (e : Ends status plan old new p q) → HasEdges edges plan trace status e.taken e.gain
     → PerformsRun status edges trace name input input' output output' files files' old new p q
 Performs-ran status edges trace name input input' output output' files files' old new p q plan once loads e has_edges =
@@ -180,7 +181,7 @@ Performs-ran status edges trace name input input' output output' files files' ol
     }
 
 pub Performs-unread : {S K : Type 0} (status : Status) (edges : List EdgeTrace) (trace : Bool) (name : List ℕ) (input : S) (output : K)
-    (files files' : Shelf) (now : Moment) (p : List ℕ → Type 0) → files'.loads ≡ one_more files.loads → Loads (Err status) name files files' → edges ≡ []
+    (files files' : Shelf) (now : Moment) (p : Got) → files'.loads ≡ one_more files.loads → Loads (Err status) name files files' → edges ≡ []
     → PerformsRun status edges trace name input input output output files files' now now p p
 Performs-unread status edges trace name input output files files' now p once loads none =
     record {

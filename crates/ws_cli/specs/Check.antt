@@ -1,5 +1,6 @@
 -- How the check of a pipeline file may end.
 use Rattle.std.specs.Prelude.{◌≡◌, ◌⊎◌, ℕ, List, Option, Some, None, Ok, Err}
+use Rattle.ws_io.specs.Gain.{Got}
 use Rattle.ws_io.specs.Faults.{Calm, Rose}
 use Rattle.ws_io.specs.Files.{LoadsTold}
 use Rattle.ws_io.specs.Memory.{one_more}
@@ -43,7 +44,7 @@ abbrev pub heard_by : Moment → Told
 heard_by m = record { faults = m.write_faults; finished = m.finished }
 
 -- the text is that of an accepted plan, whose own text is printed
-pub record PrintsPlan (status : Status) (text : List ℕ) (old new : Told) (got got' : List ℕ → Type 0) : Type 0 where
+pub record PrintsPlan (status : Status) (text : List ℕ) (old new : Told) (got got' : Got) : Type 0 where
   pub plan : PlanOf
   pub accepted : reading text ≡ Ok (planned_as plan)
   pub prints : Performs status (check_text plan) old new got got'
@@ -55,7 +56,7 @@ pub record IsFirstRefusal (n : ℕ) (text : List ℕ) : Type 0 where
   pub number : n ≡ refusal_number cause
 
 -- how the check of a text may end
-abbrev pub ChecksText : Status → List ℕ → Told → Told → (List ℕ → Type 0) → (List ℕ → Type 0) → Type 0
+abbrev pub ChecksText : Status → List ℕ → Told → Told → Got → Got → Type 0
 ChecksText Done text old new got got' = PrintsPlan Done text old new got got'
 ChecksText WriteFault text old new got got' = PrintsPlan WriteFault text old new got got'
 ChecksText (Plan n) text old new got got' = IsFirstRefusal n text
@@ -69,7 +70,7 @@ ChecksText LoadFault text old new got got' = ⊥
 ChecksText TooMuch text old new got got' = ⊥
 
 -- the file was loaded without a fault, and its text was checked
-pub record ChecksFile (status : Status) (name : List ℕ) (files files' : Shelf) (old new : Told) (got got' : List ℕ → Type 0) : Type 0 where
+pub record ChecksFile (status : Status) (name : List ℕ) (files files' : Shelf) (old new : Told) (got got' : Got) : Type 0 where
   pub text : List ℕ
   pub loaded : LoadsTold files.texts name (Ok text)
   pub calm : files'.faults ≡ files.faults
@@ -82,7 +83,7 @@ pub record IsTooLong (n : ℕ) (name : List ℕ) (files files' : Shelf) : Type 0
   pub calm : files'.faults ≡ files.faults
 
 -- how the check of the file of this name may end
-abbrev pub CheckEnds : Status → List ℕ → Shelf → Shelf → Told → Told → (List ℕ → Type 0) → (List ℕ → Type 0) → Type 0
+abbrev pub CheckEnds : Status → List ℕ → Shelf → Shelf → Told → Told → Got → Got → Type 0
 CheckEnds LoadFault name files files' old new got got' = Rose files.faults files'.faults
 CheckEnds (Plan n) name files files' old new got got' =
     IsTooLong n name files files' ⊎ ChecksFile (Plan n) name files files' old new got got'
@@ -91,7 +92,7 @@ CheckEnds status name files files' old new got got' = ChecksFile status name fil
 
 -- what a check of the file of this name does, with the status that it ended with
 pub record PerformsCheck {K : Type 0} (status : Status) (name : List ℕ) (output output' : K) (files files' : Shelf) (old new : Told)
-    (got got' : List ℕ → Type 0) : Type 0 where
+    (got got' : Got) : Type 0 where
   -- the file is loaded once
   pub once : files'.loads ≡ one_more files.loads
   -- what it may end with

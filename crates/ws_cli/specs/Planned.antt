@@ -1,5 +1,6 @@
 -- What is done with the plan of a pipeline file, and how its run may end.
 use Rattle.std.specs.Prelude.{◌≡◌, ◌⊎◌, ◌<◌, ◌≤◌, ℕ, ℤ, nat_abs, Bool, List, [], length, Option, Some, None, Result, Ok, Err}
+use Rattle.ws_io.specs.Gain.{Got}
 use Rattle.ws_io.specs.Faults.{Calm, Rose}
 use Rattle.ws_io.specs.Feed.{HasLeft}
 use Rattle.ws_io.specs.Files.{LoadsTold}
@@ -42,7 +43,7 @@ Loads result name files files' = ReadsFile result name files files'
 
 -- a run of the plan of a file, with the edges that it tells where it is traced; or none, and no edges
 pub data RunEnds {S K : Type 0} (status : Status) (edges : List EdgeTrace) (trace : Bool) (name : List ℕ) (input input' : S) (output output' : K)
-    (files files' : Shelf) (old new : Moment) (got got' : List ℕ → Type 0) : Type 0 where
+    (files files' : Shelf) (old new : Moment) (got got' : Got) : Type 0 where
   Ran : (plan : Plan) → Loads (Ok plan) name files files' → (ends : Ends status plan old new got got')
       → HasEdges edges plan trace status ends.taken ends.gain
       → RunEnds status edges trace name input input' output output' files files' old new got got'
@@ -61,7 +62,7 @@ IsUnaborted (Some after) n = n < nat_abs after
 
 -- what a run of the file of this name does, with the status that it ended with and the edges that it tells
 pub record PerformsRun {S K : Type 0} (status : Status) (edges : List EdgeTrace) (trace : Bool) (name : List ℕ) (input input' : S) (output output' : K)
-    (files files' : Shelf) (old new : Moment) (got got' : List ℕ → Type 0) : Type 0 where
+    (files files' : Shelf) (old new : Moment) (got got' : Got) : Type 0 where
   -- the file is loaded once
   pub once : files'.loads ≡ one_more files.loads
   -- what it may end with

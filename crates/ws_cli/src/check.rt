@@ -1,5 +1,7 @@
 //! The check of a pipeline file: its plan is printed, or refused.
 ghost use Rattle.std.specs.Prelude.{◌≡◌};
+ghost use Rattle.ws_io.specs.Emptied.{LeavesNothing};
+ghost use Rattle.ws_io.specs.Gain.{IsEmptied};
 ghost use Rattle.ws_plan.specs.PlanText.{check_text};
 ghost use Rattle.ws_script.specs.Printing.{Performs};
 ghost use Rattle.ws_cli.specs.Check.{PerformsCheck, shelf};
@@ -18,6 +20,7 @@ fn print_plan<K: Sink>(alloc: Global, plan: &Plan, output: &mut K) -> Status
         (record { faults = K.faults output.new; finished = K.finished output.new })
         (K.got output.old) (K.got output.new) }
     ensures unwritten { result ≡ Status.NoMemory → output.new ≡ output.old }
+    ensures emptied { LeavesNothing result (K.got output.new) }
 {
     let Ok(text) = plan_text(alloc, plan) else {
         return Status::NoMemory;
@@ -47,6 +50,7 @@ pub fn run_check<F: Files, K: Sink>(
         (record { faults = K.faults output.new; finished = K.finished output.new })
         (K.got output.old) (K.got output.new) }
     ensures texts { F.texts files.new ≡ F.texts files.old }
+    ensures emptied { IsEmptied (K.got output.old) → LeavesNothing result (K.got output.new) }
 {
     match load_plan(alloc, files, name) {
         Ok(plan) => print_plan(alloc, &plan, output),

@@ -4,12 +4,15 @@
 mod check;
 mod command;
 mod file;
+mod generation;
+mod numbers;
 mod program;
 mod run;
 mod trace;
 
 pub use check::run_check;
 pub use command::top;
+pub use generation::{Generation, run_generation};
 pub use program::process;
 pub use run::MAX_INPUT;
 pub use ws_plan::{PlanRefused, read_plan};

@@ -1,5 +1,7 @@
 //! The runs of a pipeline: that of a file, and that without stages.
 ghost use Rattle.std.specs.Prelude.{◌≡◌, ◌^◌, []};
+ghost use Rattle.ws_io.specs.Emptied.{LeavesNothing};
+ghost use Rattle.ws_io.specs.Gain.{IsEmptied};
 ghost use Rattle.ws_io.specs.Moment.{moment};
 ghost use Rattle.ws_node.specs.Copies.{Copies};
 ghost use Rattle.ws_cli.specs.Check.{shelf};
@@ -36,10 +38,11 @@ pub fn run_copy<R: Threads + Wait + Sync, S: Source, K: Sink, G: Gate>(
     output: &mut K,
     gate: &G,
 ) -> Status
-    ensures { Copies result (2 ^ 40) 4096
+    ensures copies { Copies result (2 ^ 40) 4096
         (moment (S.faults input.old) (S.feed input.old) (K.faults output.old) (K.finished output.old))
         (moment (S.faults input.new) (S.feed input.new) (K.faults output.new) (K.finished output.new))
         (K.got output.old) (K.got output.new) }
+    ensures emptied { LeavesNothing result (K.got output.new) }
 {
     let plan = Plan {
         workers: 0,
@@ -70,6 +73,7 @@ pub fn run_file<R: Threads + Wait + Sync, F: Files, S: Source, K: Sink, G: Gate>
         (moment (S.faults input.new) (S.feed input.new) (K.faults output.new) (K.finished output.new))
         (K.got output.old) (K.got output.new) }
     ensures texts { F.texts files.new ≡ F.texts files.old }
+    ensures emptied { IsEmptied (K.got output.old) → LeavesNothing result.status (K.got output.new) }
 {
     match load_plan(alloc, files, name) {
         Ok(plan) => run_nodes(rt, alloc, &plan, input, output, gate, trace),

@@ -2,23 +2,13 @@
 ghost use Rattle.std.specs.Prelude.{◌≡◌, ◌+◌, ◌++◌, OnOk, codes};
 ghost use Rattle.ws_io.specs.Faults.{HasCause};
 ghost use Rattle.ws_io.specs.Gain.{Gains, KeepsTold};
-ghost use Rattle.ws_io.specs.Notes.{numbered, text_of};
+ghost use Rattle.ws_io.specs.Notes.{text_of};
 ghost use Rattle.ws_cli.specs.TraceText.{edge_text, line_text, mark_text, marks_text, trace_text};
 
-use itoa::Buffer;
+use crate::numbers::write_number;
 use ws_edge::Mark;
 use ws_io::{Failed, Sink, write_whole};
 use ws_runner::{EdgeTrace, Finished};
-
-/// Writes words and a number in decimal.
-fn write_number<E: Sink>(notes: &mut E, words: &[u8], number: u64) -> Result<(), Failed>
-    ensures bytes { OnOk result (Gains (E.got notes.old) (E.got notes.new) (numbered words.now number)) }
-    ensures finished { KeepsTold (E.finished notes.old) (E.finished notes.new) }
-    ensures cause { HasCause (E.faults notes.old) (E.faults notes.new) result }
-{
-    write_whole(notes, words)?;
-    write_whole(notes, Buffer::new().format(number).as_bytes())
-}
 
 fn write_mark<E: Sink>(notes: &mut E, mark: &Mark) -> Result<(), Failed>
     ensures bytes { OnOk result (Gains (E.got notes.old) (E.got notes.new) (mark_text mark.now)) }

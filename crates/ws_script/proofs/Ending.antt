@@ -1,6 +1,7 @@
 -- How a script ends by how its text was read and its lines were performed, and what its ends exclude.
 use Rattle.std.proofs.Common.{◌≡◌, ◌+◌, ◌<◌, ◌≤◌, ◌⊎◌, inl, inr, ℕ, List, [], ◌++◌, length, refl, sym, ◌∙◌, ap, append-nil, length-append, arith}
 use Rattle.std.specs.Prelude.{Option, Some, None, Ok, Err}
+use Rattle.ws_io.specs.Gain.{Got}
 use Rattle.ws_io.specs.Faults.{Calm}
 use Rattle.ws_io.specs.Feed.{Feed, Fed, HasLeft, IsEmpty}
 use Rattle.ws_io.specs.Moment.{Moment, moment}
@@ -21,7 +22,7 @@ whole : (before after : Option Feed) (count count' : ℕ) (text : List ℕ) (tol
 whole before after count count' text told told' short r =
     record { ended = (r.end short).0; emptied = (r.end short).1; calm = r.calm; short = short }
 
-pub Ends-performed : (status : Status) (before after : Option Feed) (count count' : ℕ) (text : List ℕ) (found : List Line) (told told' : Told) (p q : List ℕ → Type 0)
+pub Ends-performed : (status : Status) (before after : Option Feed) (count count' : ℕ) (text : List ℕ) (found : List Line) (told told' : Told) (p q : Got)
     → ReadsText before after count count' text → length text ≤ most_bytes → lines text ≡ Ok found
     → Performs status (script_text found) told told' p q
     → ScriptEnds status (moment count before told.faults told.finished) (moment count' after told'.faults told'.finished) p q
@@ -80,7 +81,7 @@ Ends-performed NoMemory before after count count' text found told told' p q r sh
 Ends-performed _ before after count count' text found told told' p q r short accepted stopped = absurd stopped.cause
 
 -- the script is refused, and nothing is written
-pub Ends-bad_line : (n : ℕ) (before after : Option Feed) (count count' : ℕ) (text : List ℕ) (told : Told) (p : List ℕ → Type 0)
+pub Ends-bad_line : (n : ℕ) (before after : Option Feed) (count count' : ℕ) (text : List ℕ) (told : Told) (p : Got)
     → ReadsText before after count count' text → length text ≤ most_bytes → lines text ≡ Err n
     → ScriptEnds (Script n) (moment count before told.faults told.finished) (moment count' after told.faults told.finished) p p
 Ends-bad_line n before after count count' text told p r short refused =
@@ -97,7 +98,7 @@ Ends-bad_line n before after count count' text told p r short refused =
       finish_kept = KeepsTold-same told.finished;
     }
 
-pub Ends-too_long : (before after : Option Feed) (count count' : ℕ) (text : List ℕ) (told : Told) (p : List ℕ → Type 0)
+pub Ends-too_long : (before after : Option Feed) (count count' : ℕ) (text : List ℕ) (told : Told) (p : Got)
     → ReadsText before after count count' text → most_bytes < length text
     → ScriptEnds (Script 0) (moment count before told.faults told.finished) (moment count' after told.faults told.finished) p p
 Ends-too_long before after count count' text told p r long =
@@ -111,7 +112,7 @@ Ends-too_long before after count count' text told p r long =
       finish_kept = KeepsTold-same told.finished;
     }
 
-pub Ends-wanting : (before after : Option Feed) (count count' : ℕ) (text : List ℕ) (told : Told) (p : List ℕ → Type 0)
+pub Ends-wanting : (before after : Option Feed) (count count' : ℕ) (text : List ℕ) (told : Told) (p : Got)
     → ReadsText before after count count' text
     → ScriptEnds NoMemory (moment count before told.faults told.finished) (moment count' after told.faults told.finished) p p
 Ends-wanting before after count count' text told p r =
@@ -126,7 +127,7 @@ Ends-wanting before after count count' text told p r =
     }
 
 -- the text wasn't read
-pub Ends-unread : (status : Status) (most : ℕ) (before after : Option Feed) (count count' : ℕ) (told : Told) (p : List ℕ → Type 0)
+pub Ends-unread : (status : Status) (most : ℕ) (before after : Option Feed) (count count' : ℕ) (told : Told) (p : Got)
     → StopsReading status most before after count count' → most ≡ most_bytes + 1
     → ScriptEnds status (moment count before told.faults told.finished) (moment count' after told.faults told.finished) p p
 Ends-unread ReadFault most before after count count' told p stopped same =
@@ -171,7 +172,7 @@ not_both text found n a b = let e = sym a ∙ b in cc
 same_line : (text : List ℕ) (m n : ℕ) → lines text ≡ Err m → lines text ≡ Err n → m ≡ n
 same_line text m n a b = let e = sym a ∙ b in cc
 
-pub Complete : (status : Status) (old new : Moment) (p q : List ℕ → Type 0) → ScriptEnds status old new p q
+pub Complete : (status : Status) (old new : Moment) (p q : Got) → ScriptEnds status old new p q
     → (text : List ℕ) (found : List Line) → HasLeft old.feed text → length text ≤ most_bytes → lines text ≡ Ok found
     → Calm old.read_faults new.read_faults → Calm old.write_faults new.write_faults
     → (status ≡ Done) ⊎ (status ≡ NoMemory)
@@ -186,7 +187,7 @@ Complete (Script n) old new p q e text found has short accepted read write =
     ]
 Complete _ old new p q e text found has short accepted read write = absurd e.allowed
 
-pub Outside : (status : Status) (old new : Moment) (p q : List ℕ → Type 0) → ScriptEnds status old new p q
+pub Outside : (status : Status) (old new : Moment) (p q : Got) → ScriptEnds status old new p q
     → (text : List ℕ) (n : ℕ) → HasLeft old.feed text → length text ≤ most_bytes → lines text ≡ Err n
     → Calm old.read_faults new.read_faults
     → (status ≡ Script n) ⊎ (status ≡ NoMemory)
@@ -209,7 +210,7 @@ not_whole : (old new : Moment) (text taken : List ℕ) → HasLeft old.feed text
 not_whole old new text taken has fed long w =
     let short = w.short in omega (arith, ap length (all_taken old.feed new.feed text taken has fed w.emptied))
 
-pub TooLong : (status : Status) (old new : Moment) (p q : List ℕ → Type 0) → ScriptEnds status old new p q
+pub TooLong : (status : Status) (old new : Moment) (p q : Got) → ScriptEnds status old new p q
     → (text : List ℕ) → HasLeft old.feed text → most_bytes < length text
     → Calm old.read_faults new.read_faults
     → (status ≡ Script 0) ⊎ (status ≡ NoMemory)

@@ -5,6 +5,8 @@ use Rattle.ws_grammar.specs.declared.line.Line.{Line}
 use Rattle.ws_steps.specs.Run.{heard}
 use Rattle.ws_steps.specs.Slots.{Slots}
 use Rattle.ws_script.specs.Printed.{after_line, line_text, lines_text}
+use Rattle.ws_io.specs.Emptied.{LeavesNothing}
+use Rattle.ws_io.specs.Gain.{Gains, Got, KeepsTold}
 use Rattle.ws_io.specs.declared.status.Status.{Status}
 use Rattle.ws_io.specs.declared.status.Status.TheVariants.{WriteFault, NoMemory}
 use Rattle.ws_io.specs.Faults.{Rose}
@@ -12,7 +14,7 @@ use Rattle.ws_io.proofs.Flow.{Gains-nothing, Gains-then, KeepsTold-same, KeepsTo
 use Rattle.ws_script.specs.Printing.{Told, PrintsOn, PrintsSoFar, IsStop, StopsPrinting}
 
 -- nothing is written yet
-pub Prints-nothing : (told : Told) (p : List ℕ → Type 0) (text : List ℕ) → PrintsOn told told p p text text
+pub Prints-nothing : (told : Told) (p : Got) (text : List ℕ) → PrintsOn told told p p text text
 Prints-nothing told p text =
     record {
       printed = record { gain = []; gained = Gains-nothing p; first = refl; finish_kept = KeepsTold-same told.finished };
@@ -20,7 +22,7 @@ Prints-nothing told p text =
     }
 
 -- what is printed behind the text isn't written either
-pub Stops-before : (status : Status) (old new : Told) (p q : List ℕ → Type 0) (text more : List ℕ)
+pub Stops-before : (status : Status) (old new : Told) (p q : Got) (text more : List ℕ)
     → StopsPrinting status old new p q text → StopsPrinting status old new p q (text ++ more)
 Stops-before status old new p q text more s =
     record {
@@ -35,7 +37,7 @@ Stops-before status old new p q text more s =
     }
 
 -- two steps after each other: the second has what the first left waiting, and more behind it
-pub Prints-then : (a b c : Told) (p q r : List ℕ → Type 0) (text waiting more rest : List ℕ)
+pub Prints-then : (a b c : Told) (p q r : Got) (text waiting more rest : List ℕ)
     → PrintsOn a b p q text waiting → PrintsOn b c q r (waiting ++ more) rest → PrintsOn a c p r (text ++ more) rest
 Prints-then a b c p q r text waiting more rest x y =
     record {
@@ -57,7 +59,7 @@ cause_before WriteFault a b c calm cause = let P : ℕ → Type 0 = λ n. Rose n
 cause_before NoMemory a b c calm cause = tt
 cause_before _ a b c calm cause = absurd cause
 
-pub Stops-then : (status : Status) (a b c : Told) (p q r : List ℕ → Type 0) (text waiting more : List ℕ)
+pub Stops-then : (status : Status) (a b c : Told) (p q r : Got) (text waiting more : List ℕ)
     → PrintsOn a b p q text waiting → StopsPrinting status b c q r (waiting ++ more) → StopsPrinting status a c p r (text ++ more)
 Stops-then status a b c p q r text waiting more x y =
     record {
@@ -74,13 +76,34 @@ Stops-then status a b c p q r text waiting more x y =
       cause = cause_before status a b c x.calm y.cause;
     }
 
+-- nothing more is printed
+pub Stops-later : (status : Status) (a b c : Told) (p q r : Got) (text waiting : List ℕ)
+    → PrintsOn a b p q text waiting → StopsPrinting status b c q r [] → StopsPrinting status a c p r text
+Stops-later status a b c p q r text waiting x y =
+    subst (λ (xs : List ℕ). StopsPrinting status a c p r xs) (append-nil text)
+    (Stops-then status a b c p q r text waiting [] x
+    (subst (λ (xs : List ℕ). StopsPrinting status b c q r xs) (sym (append-nil waiting)) (Stops-before status b c q r [] waiting y)))
+
+-- all was printed, but the output couldn't be finished
+pub Stops-unfinished : (a b c : Told) (p q r : Got) (text : List ℕ) → PrintsOn a b p q text [] → Gains q r [] → KeepsTold b.finished c.finished → Rose b.faults c.faults
+    → StopsPrinting WriteFault a c p r text
+Stops-unfinished a b c p q r text x gained kept rose =
+    Stops-later WriteFault a b c p q r text [] x
+    (record { rest = []; printed = record { gain = []; gained = gained; first = refl; finish_kept = kept }; cause = rose })
+
+-- a write has failed then, or memory was wanting
+pub Stops-leave : (status : Status) (a b : Told) (p q : Got) (text : List ℕ) → StopsPrinting status a b p q text → LeavesNothing status q
+Stops-leave WriteFault a b p q text s = tt
+Stops-leave NoMemory a b p q text s = tt
+Stops-leave _ a b p q text s = absurd s.cause
+
 -- nothing is printed yet
-pub SoFar-start : (told : Told) (p : List ℕ → Type 0) (script waiting rest : List ℕ) → waiting ≡ [] → rest ≡ script → PrintsSoFar told told p p script waiting rest
+pub SoFar-start : (told : Told) (p : Got) (script waiting rest : List ℕ) → waiting ≡ [] → rest ≡ script → PrintsSoFar told told p p script waiting rest
 SoFar-start told p script waiting rest none all =
     rw (none, all) (record { printed = []; split = refl; on = Prints-nothing told p [] })
 
 -- one more part of the script's text is printed
-pub SoFar-then : (a b c : Told) (p q r : List ℕ → Type 0) (script waiting waiting' rest more rest' : List ℕ)
+pub SoFar-then : (a b c : Told) (p q r : Got) (script waiting waiting' rest more rest' : List ℕ)
     → PrintsSoFar a b p q script waiting rest → rest ≡ more ++ rest' → PrintsOn b c q r (waiting ++ more) waiting'
     → PrintsSoFar a c p r script waiting' rest'
 SoFar-then a b c p q r script waiting waiting' rest more rest' s cut on =
@@ -91,7 +114,7 @@ SoFar-then a b c p q r script waiting waiting' rest more rest' s cut on =
     }
 
 -- printing stops within a part of the script's text
-pub SoFar-stop : (status : Status) (a b c : Told) (p q r : List ℕ → Type 0) (script waiting rest more rest' : List ℕ)
+pub SoFar-stop : (status : Status) (a b c : Told) (p q r : Got) (script waiting rest more rest' : List ℕ)
     → PrintsSoFar a b p q script waiting rest → rest ≡ more ++ rest' → StopsPrinting status b c q r (waiting ++ more)
     → StopsPrinting status a c p r script
 SoFar-stop status a b c p q r script waiting rest more rest' s cut stop =
@@ -100,7 +123,7 @@ SoFar-stop status a b c p q r script waiting rest more rest' s cut stop =
     (Stops-before status a c p r (s.printed ++ more) rest' (Stops-then status a b c p q r s.printed waiting more s.on stop))
 
 -- all is printed, and what waits is written
-pub SoFar-end : (a b c : Told) (p q r : List ℕ → Type 0) (script waiting rest waiting' : List ℕ)
+pub SoFar-end : (a b c : Told) (p q r : Got) (script waiting rest waiting' : List ℕ)
     → PrintsSoFar a b p q script waiting rest → rest ≡ [] → PrintsOn b c q r waiting waiting' → waiting' ≡ []
     → PrintsOn a c p r script []
 SoFar-end a b c p q r script waiting rest waiting' s none on empty =
@@ -110,7 +133,7 @@ SoFar-end a b c p q r script waiting rest waiting' s none on empty =
     (subst (λ (text : List ℕ). P text waiting') whole
     (Prints-then a b c p q r s.printed waiting [] waiting' s.on (subst (λ (text : List ℕ). PrintsOn b c q r text waiting') (sym (append-nil waiting)) on)))
 
-pub SoFar-end_stop : (status : Status) (a b c : Told) (p q r : List ℕ → Type 0) (script waiting rest : List ℕ)
+pub SoFar-end_stop : (status : Status) (a b c : Told) (p q r : Got) (script waiting rest : List ℕ)
     → PrintsSoFar a b p q script waiting rest → rest ≡ [] → StopsPrinting status b c q r waiting
     → StopsPrinting status a c p r script
 SoFar-end_stop status a b c p q r script waiting rest s none stop =
@@ -118,7 +141,7 @@ SoFar-end_stop status a b c p q r script waiting rest s none stop =
     (subst (λ (text : List ℕ). StopsPrinting status b c q r text) (sym (append-nil waiting)) stop)
 
 -- nothing was written when printing stopped
-pub Stops-at_once : (told : Told) (p : List ℕ → Type 0) (text : List ℕ) → StopsPrinting NoMemory told told p p text
+pub Stops-at_once : (told : Told) (p : Got) (text : List ℕ) → StopsPrinting NoMemory told told p p text
 Stops-at_once told p text =
     record {
       rest = text;

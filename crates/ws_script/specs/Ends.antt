@@ -2,7 +2,7 @@
 use Rattle.std.specs.Prelude.{◌≡◌, ◌<◌, ◌≤◌, ◌⊎◌, ℕ, List, [], ◌++◌, length, Ok, Err}
 use Rattle.ws_io.specs.Faults.{Rose}
 use Rattle.ws_io.specs.Feed.{Fed, IsEnded, IsEmpty}
-use Rattle.ws_io.specs.Gain.{Gains, Becomes, KeepsTold}
+use Rattle.ws_io.specs.Gain.{Gains, Becomes, KeepsTold, Got}
 use Rattle.ws_io.specs.Moment.{Moment, NoFault}
 use Rattle.ws_io.specs.declared.status.Status.{Status}
 use Rattle.ws_io.specs.declared.status.Status.TheVariants.{Done, Stage, Usage, Plan, ReadFault, WriteFault, Aborted, NoMemory, Script, LoadFault, TooMuch}
@@ -81,7 +81,7 @@ LeavesEnd TooMuch old new = KeepsTold old.finished new.finished
 
 -- How a script that took `taken` of its input ends: what the output gained, of which the status says what it is, and at most
 -- one byte more than a script may have was taken.
-pub record ScriptEnds (status : Status) (old new : Moment) (got got' : List ℕ → Type 0) : Type 0 where
+pub record ScriptEnds (status : Status) (old new : Moment) (got got' : Got) : Type 0 where
   pub taken : List ℕ
   pub gain : List ℕ
   pub fed : Fed old.feed new.feed taken

@@ -1,5 +1,6 @@
 //! The tasks of a script's lines, and the writing of what they print.
 ghost use Rattle.std.specs.Prelude.{◌≡◌, ◌≢◌, ◌+◌, ◌<◌, ◌≤◌, ◌++◌, [], length, IfOk, OnOk, IfErr};
+ghost use Rattle.ws_io.specs.Emptied.{LeavesNothing};
 ghost use Rattle.ws_steps.specs.Run.{heard};
 ghost use Rattle.ws_realm.specs.Seen.{oldest};
 ghost use Rattle.ws_realm.specs.declared.realm.Why.TheVariants.{Spent};
@@ -66,6 +67,19 @@ fn flush<K: Sink>(text: &mut Vec<u8>, output: &mut K) -> Result<(), Status>
     }
 }
 
+/// Writes what the output holds back, at the end of a script for which memory couldn't be had.
+fn stop<K: Sink>(output: &mut K) -> Status
+    ensures { StopsPrinting result
+        (record { faults = K.faults output.old; finished = K.finished output.old })
+        (record { faults = K.faults output.new; finished = K.finished output.new })
+        (K.got output.old) (K.got output.new) [] }
+{
+    match output.flush() {
+        Ok(()) => Status::NoMemory,
+        Err(Failed) => Status::WriteFault,
+    }
+}
+
 /// Writes the text of the lines before the one for which memory couldn't be had.
 fn give_up<K: Sink>(text: &mut Vec<u8>, output: &mut K) -> Status
     ensures { StopsPrinting result
@@ -74,7 +88,7 @@ fn give_up<K: Sink>(text: &mut Vec<u8>, output: &mut K) -> Status
         (K.got output.old) (K.got output.new) text.old.items }
 {
     match flush(text, output) {
-        Ok(()) => Status::NoMemory,
+        Ok(()) => stop(output),
         Err(status) => status,
     }
 }
@@ -136,10 +150,11 @@ fn print_lines<K: Sink>(alloc: Global, lines: Vec<Line>, output: &mut K) -> Resu
 /// Performs the lines of a script, writes what they print, and finishes the output.
 pub(crate) fn perform<K: Sink>(alloc: Global, lines: Vec<Line>, output: &mut K) -> Status
     requires { length lines.items ≤ most_bytes + 1 }
-    ensures { Performs result (script_text lines.items)
+    ensures performs { Performs result (script_text lines.items)
         (record { faults = K.faults output.old; finished = K.finished output.old })
         (record { faults = K.faults output.new; finished = K.finished output.new })
         (K.got output.old) (K.got output.new) }
+    ensures emptied { LeavesNothing result (K.got output.new) }
 {
     if let Err(status) = print_lines(alloc, lines, output) {
         return status;

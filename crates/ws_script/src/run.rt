@@ -1,7 +1,9 @@
 //! A script whole: its text is read, and its lines are performed.
 ghost use Rattle.std.specs.Prelude.{◌≡◌, ◌<◌, ◌≤◌, ◌⊎◌, ℕ, List, length, Option, Ok, Err};
+ghost use Rattle.ws_io.specs.Emptied.{LeavesNothing};
 ghost use Rattle.ws_io.specs.Faults.{Calm};
 ghost use Rattle.ws_io.specs.Feed.{Feed, HasLeft};
+ghost use Rattle.ws_io.specs.Gain.{IsEmptied};
 ghost use Rattle.ws_io.specs.Moment.{moment};
 ghost use Rattle.ws_grammar.specs.declared.line.Line.{Line};
 ghost use Rattle.ws_grammar.specs.Lines.{lines, most_bytes};
@@ -16,11 +18,12 @@ use ws_io::{Sink, Source, Status};
 
 /// Reads the lines of a text, which was the input, and performs them.
 fn run_text<K: Sink>(alloc: Global, text: &[u8], output: &mut K) -> Status
-    ensures { (before after : Option Feed) (count count' : ℕ) → ReadsText before after count count' text.now
+    ensures ends { (before after : Option Feed) (count count' : ℕ) → ReadsText before after count count' text.now
         → ScriptEnds result
         (moment count before (K.faults output.old) (K.finished output.old))
         (moment count' after (K.faults output.new) (K.finished output.new))
         (K.got output.old) (K.got output.new) }
+    ensures emptied { IsEmptied (K.got output.old) → LeavesNothing result (K.got output.new) }
 {
     match read_script(alloc, text) {
         Ok(lines) => perform(alloc, lines, output),
@@ -40,6 +43,9 @@ pub fn run_script<S: Source, K: Sink>(alloc: Global, input: &mut S, output: &mut
         (moment (S.faults input.old) (S.feed input.old) (K.faults output.old) (K.finished output.old))
         (moment (S.faults input.new) (S.feed input.new) (K.faults output.new) (K.finished output.new))
         (K.got output.old) (K.got output.new) }
+
+    // The output holds nothing back then, if it held nothing before.
+    ensures emptied { IsEmptied (K.got output.old) → LeavesNothing result (K.got output.new) }
 
     // Where nothing fails, what is in the grammar and short enough is performed whole, or memory can't be had.
     ensures complete { (text : List ℕ) (found : List Line) → HasLeft (S.feed input.old) text

@@ -1,4 +1,5 @@
 use Rattle.std.proofs.Common.{refl}
+use Rattle.ws_io.proofs.Emptied.{emptied-leaves}
 use Rattle.ws_plan.specs.PlanText.{check_text}
 use Rattle.ws_cli.specs.Check.{shelf}
 use Rattle.ws_cli.proofs.Checking.{Checks-printed, Ends-checked, Ends-unread, Performs-check, Unwritten}
@@ -40,3 +41,6 @@ returns-in-Err-clause-does g c =
     (Ends-unread c.in-Err.status c.args.name.now files files'
     (record { faults = g.K.Sink.faults was; finished = g.K.Sink.finished was }) (g.K.Sink.got was) c.in-Err.ensures.loads)
     (λ not_done not_failed. refl)
+
+pub returns-in-Err-clause-emptied : goal.returns-in-Err-clause-emptied
+returns-in-Err-clause-emptied g c = emptied-leaves c.in-Err.status (g.K.Sink.got c.args.output.now)

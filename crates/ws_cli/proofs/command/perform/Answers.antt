@@ -12,4 +12,4 @@ returns-in-None-clause-performs g c =
     (shelf (g.F.Files.texts c.args.files.now) (g.F.Files.faults c.args.files.now) (g.F.Files.loads c.args.files.now)) now now (g.K.Sink.got c.args.output.now) (g.K.Sink.got c.args.output.now)
     c.without_edges-in-None.ensures.status c.without_edges-in-None.ensures.edges
     (λ r. false≢true (c.if-is_alone.ensures.1 r)) (λ s. false≢true (c.if-is_alone-2.ensures.1 s))
-    ((λ name. c.in-None.ensures name), (λ name. c.in_default.ensures name), (λ name. c.in_default-file_to_trace.ensures name))
+    ((λ name. c.in-None.ensures name), (λ name. c.in_default.ensures name), (λ name. c.in_default-file_to_trace.ensures name), c.in_default-generation.ensures)

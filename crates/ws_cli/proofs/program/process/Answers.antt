@@ -14,6 +14,7 @@ returns-in-Err-NotText-clause-ends g c =
       numbered = c.end.ensures.number;
       did = inr (record { refused = rw (← c.in-Err-NotText.field-0-is) c.in-Err-NotText.ensures; edgeless = refl; unloaded = refl; unread = refl; unwritten = refl });
       noted = c.end.ensures.notes;
+      emptied = λ e. e;
     }
 
 pub returns-in-Err-NoMemory-clause-ends : goal.returns-in-Err-NoMemory-clause-ends
@@ -26,6 +27,7 @@ returns-in-Err-NoMemory-clause-ends g c =
       numbered = c.end-in-Err-NoMemory.ensures.number;
       did = inr (record { refused = subst (λ (e : ArgumentsRefused). IsRefused told lacking e) c.in-Err-NoMemory.field-0-is c.in-Err-NoMemory.ensures; edgeless = refl; unloaded = refl; unread = refl; unwritten = refl });
       noted = c.end-in-Err-NoMemory.ensures.notes;
+      emptied = λ e. tt;
     }
 
 pub returns-clause-ends : goal.returns-clause-ends
@@ -42,4 +44,5 @@ returns-clause-ends g c =
         performs = c.top-status.ensures.performs.performs;
       });
       noted = c.top-status.ensures.performs.noted;
+      emptied = c.top-status.ensures.emptied;
     }

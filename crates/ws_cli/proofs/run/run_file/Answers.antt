@@ -2,6 +2,7 @@ use Rattle.std.proofs.Common.{sym, subst}
 use Rattle.std.specs.Prelude.{Err}
 use Rattle.ws_io.specs.Moment.{moment}
 use Rattle.ws_io.specs.declared.status.Status.{Status}
+use Rattle.ws_io.proofs.Emptied.{emptied-leaves}
 use Rattle.ws_cli.specs.Check.{shelf}
 use Rattle.ws_cli.specs.Planned.{Loads}
 use Rattle.ws_cli.proofs.Running.{Performs-ran, Performs-unread}
@@ -15,7 +16,7 @@ returns-in-Ok-clause-performs g c =
     (moment (g.S.Source.faults c.args.input.now) (g.S.Source.feed c.args.input.now) (g.K.Sink.faults c.args.output.now) (g.K.Sink.finished c.args.output.now))
     (moment (g.S.Source.faults c.run_nodes.new.input) (g.S.Source.feed c.run_nodes.new.input) (g.K.Sink.faults c.run_nodes.new.output) (g.K.Sink.finished c.run_nodes.new.output))
     (g.K.Sink.got c.args.output.now) (g.K.Sink.got c.run_nodes.new.output)
-    c.in-Ok.plan c.load_plan.ensures.once c.in-Ok.ensures.loads c.run_nodes.ensures.ends c.run_nodes.ensures.edges
+    c.in-Ok.plan c.load_plan.ensures.once c.in-Ok.ensures.loads c.run_nodes.ensures.finishes.ends c.run_nodes.ensures.finishes.edges
 
 pub returns-in-Err-clause-performs : goal.returns-in-Err-clause-performs
 returns-in-Err-clause-performs g c =
@@ -27,3 +28,6 @@ returns-in-Err-clause-performs g c =
     (g.K.Sink.got c.args.output.now) c.load_plan.ensures.once
     (subst (λ (s : Status). Loads (Err s) c.args.name.now files files') (sym c.without_edges.ensures.status) c.in-Err.ensures.loads)
     c.without_edges.ensures.edges
+
+pub returns-in-Err-clause-emptied : goal.returns-in-Err-clause-emptied
+returns-in-Err-clause-emptied g c = emptied-leaves c.without_edges.result.status (g.K.Sink.got c.args.output.now)

@@ -8,10 +8,10 @@ use Rattle.ws_cli.proofs.trace.write_line.Goals as goal
 pub returns-clause-bytes : goal.returns-clause-bytes
 returns-clause-bytes g c =
     let p₀ = g.E.Sink.got c.args.notes.now in
-    let p₁ = g.E.Sink.got c.write_number.new.notes in
+    let p₁ = g.E.Sink.got c.write_number.new.output in
     let p₂ = g.E.Sink.got c.write_whole.new.output in
     let p₃ = g.E.Sink.got c.write_marks.new.notes in
-    let p₄ = g.E.Sink.got c.write_number-2.new.notes in
+    let p₄ = g.E.Sink.got c.write_number-2.new.output in
     let p₅ = g.E.Sink.got c.write_whole-2.new.output in
     let r = c.write_whole-2.result in
     let edge = numbered (codes "edge ") c.args.number in
