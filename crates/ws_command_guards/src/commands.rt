@@ -1,7 +1,8 @@
 //! The commands, and the program whole.
 ghost use Rattle.std.specs.Prelude.{◌≡◌};
 ghost use Rattle.std.specs.Process.{exit_status};
-ghost use Rattle.ws_io.specs.Gain.{KeepsTold};
+ghost use Rattle.ws_io.specs.Emptied.{LeavesNothing};
+ghost use Rattle.ws_io.specs.Gain.{IsEmptied, KeepsTold};
 ghost use Rattle.ws_io.specs.Moment.{moment};
 ghost use Rattle.ws_cli.specs.Check.{PerformsCheck, shelf};
 ghost use Rattle.ws_cli.specs.Commands.{EndsWith, PerformsNoted};
@@ -28,6 +29,7 @@ pub fn run_check<F: Files, K: Sink>(
         (record { faults = K.faults output.new; finished = K.finished output.new })
         (K.got output.old) (K.got output.new) }
     ensures texts { F.texts files.new ≡ F.texts files.old }
+    ensures emptied { IsEmptied (K.got output.old) → LeavesNothing result (K.got output.new) }
 {
     ws_cli::run_check(alloc, files, name, output)
 }
@@ -52,6 +54,7 @@ pub fn top<R: Threads + Wait + Sync, F: Files, S: Source, K: Sink, E: Sink, G: G
         (K.got output.old) (K.got output.new)
         (E.faults notes.old) (E.faults notes.new) (E.got notes.old) (E.got notes.new) }
     ensures notes_end { KeepsTold (E.finished notes.old) (E.finished notes.new) }
+    ensures emptied { IsEmptied (K.got output.old) → LeavesNothing result (K.got output.new) }
     ensures files { NamesNoFile words.now → files.new ≡ files.old }
     ensures texts { F.texts files.new ≡ F.texts files.old }
 {

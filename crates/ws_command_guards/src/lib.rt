@@ -4,6 +4,7 @@
 
 pub mod calls;
 pub mod commands;
+pub mod generation;
 pub mod realms;
 pub mod runs;
 pub mod scripts;

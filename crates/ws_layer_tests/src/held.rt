@@ -1,10 +1,9 @@
-//! The output held back, over a device that takes one byte a call and may be full, of which some calls are
+//! A sink with a buffer in front of it, over a device that takes one byte a call and may be full, of which some calls are
 //! interrupted.
 use std::cell::Cell;
 use std::io::{self, ErrorKind, Read, Write};
-use std::process::ExitCode;
 use std::test::Fail;
-use ws_io::{HeldOutput, MemSink, Sink, Source, StdSink, StdSource};
+use ws_io::{BufferedSink, Sink, Source, StdSink, StdSource};
 
 const TEXT: &[u8] = b"some bytes";
 
@@ -56,82 +55,51 @@ impl Read for Typed<'_> {
     }
 }
 
-/// That what was taken goes out before a read of the system's, before a note and at the end, no byte twice, also
-/// where a thousand calls are interrupted; and that bytes that were read ahead are given without a read, and
-/// without a write of what was taken.
+/// That what was taken goes out as it is flushed or finished, no byte twice, also where a hundred calls are
+/// interrupted; and that bytes that were read ahead are ready, and given without a read.
 #[test]
 fn held_bytes_go_out(rt: HostRuntime) -> Result<(), Fail> {
-    for calls in [0, 1, 1_000] {
+    for calls in [0, 1, 100] {
         let (taken, interrupted, reads) = (Cell::new(0), Cell::new(calls), Cell::new(0));
-        let output = HeldOutput::over(
-            rt.alloc(),
-            Device {
-                taken: &taken,
-                most: 10,
-                interrupted: &interrupted,
-            },
-        );
-        let mut source = StdSource::over(output.input(
-            rt.alloc(),
-            Typed {
-                bytes: b"abcd",
-                reads: &reads,
-            },
-        ));
+        let device = Device {
+            taken: &taken,
+            most: 10,
+            interrupted: &interrupted,
+        };
+        let typed = Typed {
+            bytes: b"abcd",
+            reads: &reads,
+        };
+        let mut output = BufferedSink::over(rt.alloc(), StdSink::over(device));
+        let mut source = StdSource::ahead(rt.alloc(), typed);
         let mut room = [0u8; 3];
-        assert!(rt; StdSink::over(&output).write(b"some") == Ok(4));
-        assert!(rt; taken.get() == 0);
+        assert!(rt; output.write(b"some") == Ok(4));
+        assert!(rt; taken.get() == 0 && source.ready() == 0);
+        assert!(rt; output.flush() == Ok(()) && taken.get() == 4);
         assert!(rt; source.read(&mut room) == Ok(3) && &room == b"abc");
-        assert!(rt; taken.get() == 4 && reads.get() == 1);
-        assert!(rt; StdSink::over(&output).write(b" by") == Ok(3));
+        assert!(rt; source.ready() == 1 && reads.get() == 1);
+        assert!(rt; output.write(b" by") == Ok(3) && taken.get() == 4);
         assert!(rt; source.read(&mut room) == Ok(1) && room[0] == b'd');
-        assert!(rt; taken.get() == 4 && reads.get() == 1);
-        assert!(rt; source.read(&mut room) == Ok(0));
-        assert!(rt; taken.get() == 7 && reads.get() == 2);
-        drop(source);
-        assert!(rt; StdSink::over(&output).write(b"t") == Ok(1));
-        assert!(rt; StdSink::over(output.before(io::sink())).write(b"note") == Ok(4));
-        assert!(rt; taken.get() == 8);
-        assert!(rt; StdSink::over(&output).write(b"es") == Ok(2));
-        let mut notes = MemSink::make(rt.alloc(), 20, &[20], &[], &[])?;
-        let code = output.end(ExitCode::from(6), &mut notes);
-        assert!(rt; code == ExitCode::from(6) && notes.got().is_empty());
-        assert!(rt; taken.get() == 10);
+        assert!(rt; source.ready() == 0 && reads.get() == 1);
+        assert!(rt; output.write(b"tes") == Ok(3) && taken.get() == 4);
+        assert!(rt; output.finish() == Ok(()) && taken.get() == 10);
     }
     Ok(())
 }
 
-/// That once a device that is full couldn't take all, each call fails, and the program ends as where a write
-/// failed.
+/// That once a device that is full couldn't take all, what it didn't take is still held, and each flush fails.
 #[test]
 fn a_full_device_is_a_write_fault(rt: HostRuntime) -> Result<(), Fail> {
     let (taken, interrupted) = (Cell::new(0), Cell::new(0));
-    let output = HeldOutput::over(
-        rt.alloc(),
-        Device {
-            taken: &taken,
-            most: 7,
-            interrupted: &interrupted,
-        },
-    );
-    let mut room = [0u8; 4];
-    assert!(rt; StdSink::over(&output).write(TEXT) == Ok(10));
-    assert!(rt;
-        StdSource::over(output.input(rt.alloc(), io::empty()))
-            .read(&mut room)
-            .is_err()
-    );
-    assert!(rt; taken.get() == 7);
-    assert!(rt; StdSink::over(&output).write(b"s").is_err());
-    assert!(rt; StdSink::over(&output).finish().is_err());
-    assert!(rt;
-        StdSink::over(output.before(io::sink()))
-            .write(b"note")
-            .is_err()
-    );
-    let mut notes = MemSink::make(rt.alloc(), 20, &[20], &[], &[])?;
-    let code = output.end(ExitCode::from(6), &mut notes);
-    assert!(rt; code == ExitCode::from(5) && notes.got() == b"write fault\n".as_slice());
+    let device = Device {
+        taken: &taken,
+        most: 7,
+        interrupted: &interrupted,
+    };
+    let mut output = BufferedSink::over(rt.alloc(), StdSink::over(device));
+    assert!(rt; output.write(TEXT) == Ok(10));
+    assert!(rt; output.flush().is_err() && taken.get() == 7);
+    assert!(rt; output.flush().is_err() && output.finish().is_err());
     assert!(rt; taken.get() == 7);
     Ok(())
 }

@@ -1,14 +1,15 @@
 //! Pipes.
-ghost use Rattle.std.specs.Prelude.{◌≡◌, ◌≤◌, false, length, true};
-ghost use Rattle.ws_pipe.specs.Seen.{HasRoomFor, acts_of, going, is_next, look_of, looks};
-ghost use Rattle.ws_promise.specs.Seen.{HasEffectRoom, HasPromiseRoom};
+ghost use Rattle.std.specs.Prelude.{◌≡◌, ◌≤◌, Option, false, length, true};
+ghost use Rattle.ws_pipe.specs.Seen.{HasRoomFor, acts_of, going, is_next, look_of, looks, open_ends};
+ghost use Rattle.ws_promise.specs.Seen.{HasEffectRoom, HasPromiseRoom, Seen, SeenAgenda};
 ghost use Rattle.ws_steps.specs.Operations.{pipe_operation};
 ghost use Rattle.ws_steps.specs.declared.pipes.Ends.{Ends};
+ghost use Rattle.ws_steps.specs.declared.pipes.Phase.TheVariants.{Flowing};
 
 use ws_pipe::{Pipe, PipeEnds, PipeLook, PipeNext};
 use ws_promise::{Agenda, Promises};
 use ws_steps::PipeOperation;
-use ws_value::PipeId;
+use ws_value::{PipeId, Plain, PromiseId};
 
 /// Performs an operation in which the pipe looks at its two ends.
 pub fn perform_with_ends(
@@ -72,4 +73,19 @@ pub fn look_directly(
     ensures effect_room { fx.new.capacity ≡ fx.old.capacity }
 {
     pipe.look_directly(me, ends, p, fx, look)
+}
+
+/// Looks at two ends that go on, where the pipe is flowing: what it does next.
+pub fn look_between(
+    pipe: &mut Pipe,
+    look: PipeLook,
+    wants: bool,
+    ready: Option<PromiseId>,
+) -> PipeNext
+    requires flowing { pipe.old.phase ≡ Flowing }
+    ensures row { (me : PipeId) (source_error dest_error : Plain) (abort : Option PromiseId) (p : Seen) (fx : SeenAgenda)
+        → pipe_operation me (open_ends source_error dest_error wants ready abort) (look_of look) (acts_of pipe.old p fx)
+        ≡ going me result (acts_of pipe.new p fx) }
+{
+    pipe.look_between(look, wants, ready)
 }

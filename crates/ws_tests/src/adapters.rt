@@ -81,10 +81,13 @@ fn copied<R: Threads + Wait + Sync>(
     flushes: u32,
 ) -> Result<(Status, usize), NoMemory> {
     let taken = Cell::new(0);
-    let mut input = StdSource::over(SlowReader {
-        given: 0,
-        interrupted: Interrupted { left: reads },
-    });
+    let mut input = StdSource::over(
+        alloc,
+        SlowReader {
+            given: 0,
+            interrupted: Interrupted { left: reads },
+        },
+    );
     let mut output = StdSink::over(SlowWriter {
         taken: &taken,
         interrupted: Interrupted { left: writes },
@@ -109,7 +112,8 @@ fn interrupted_calls(rt: HostRuntime) -> Result<(), Fail> {
         (100, 100, 100, Status::Done, 10),
         (101, 0, 0, Status::ReadFault, 0),
         (0, 101, 0, Status::WriteFault, 0),
-        (0, 0, 101, Status::WriteFault, 10),
+        // a flush comes before the first read
+        (0, 0, 101, Status::WriteFault, 0),
     ] {
         let ended = copied(&rt, rt.alloc(), reads, writes, flushes)?;
         assert!(rt; ended == (status, count), "{reads} {writes} {flushes}");

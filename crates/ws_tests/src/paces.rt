@@ -1,5 +1,7 @@
-//! Runs over a source that fails where it is asked too soon, and a sink that fails at a wrong byte.
+//! Runs over a source that fails where it is asked too soon, and a sink that fails at a wrong byte, behind a buffer: what
+//! is held there goes out before the source is asked.
 ghost use Rattle.std.specs.Prelude.{None};
+ghost use Rattle.ws_io.specs.Gain.{straight};
 
 use crate::whole::{Said, perform};
 use std::alloc::Global;
@@ -7,7 +9,7 @@ use std::cell::Cell;
 use std::sync::Wait;
 use std::test::Fail;
 use std::thread::Threads;
-use ws_io::{Failed, MemSink, Sink, Source, Status};
+use ws_io::{BufferedSink, Failed, MemSink, Sink, Source, Status};
 use ws_value::NoMemory;
 
 /// A run over a text whose lines have so many bytes.
@@ -88,6 +90,10 @@ impl Source for PacedSource<'_> {
         self.place = self.place.saturating_add(count);
         Ok(count as usize)
     }
+
+    fn ready(&self) -> usize {
+        0
+    }
 }
 
 #[derive(Drop)]
@@ -100,7 +106,7 @@ struct PacedSink<'a> {
 impl Sink for PacedSink<'_> {
     ghost faults = { λ s. s.count };
 
-    ghost got = { λ s xs. ⊥ };
+    ghost got = { λ s. straight (λ xs. ⊥) };
 
     ghost finished = { λ s. None };
 
@@ -113,6 +119,10 @@ impl Sink for PacedSink<'_> {
         let count = piece.len().min(self.pace.most_written.max(1));
         self.written.set(place.saturating_add(count as u64));
         Ok(count)
+    }
+
+    fn flush(&mut self) -> Result<(), Failed> {
+        Ok(())
     }
 
     fn finish(&mut self) -> Result<(), Failed> {
@@ -134,11 +144,12 @@ fn paced<R: Threads + Wait + Sync>(
         reads: 0,
         count: 0,
     };
-    let mut output = PacedSink {
+    let sink = PacedSink {
         pace,
         written: &written,
         count: 0,
     };
+    let mut output = BufferedSink::over(alloc, sink);
     let mut notes = MemSink::make(alloc, 16, &[5], &[], &[])?;
     let status = perform(rt, alloc, pace.said, &mut input, &mut output, &mut notes)?;
     Ok((status, written.get()))

@@ -1,5 +1,6 @@
 //! A source, a sink and a gate that see how many bytes were written.
 ghost use Rattle.std.specs.Prelude.{None};
+ghost use Rattle.ws_io.specs.Gain.{straight};
 
 use crate::whole::{Said, perform_at};
 use std::alloc::Global;
@@ -101,6 +102,10 @@ impl Source for Watched<'_> {
         room[..READ].fill(b'a');
         Ok(READ)
     }
+
+    fn ready(&self) -> usize {
+        0
+    }
 }
 
 /// A write fails where its bytes aren't the next of the text `60`, again and again.
@@ -126,7 +131,7 @@ fn are_next(place: u64, piece: &[u8]) -> bool {
 impl Sink for Counted<'_> {
     ghost faults = { λ s. s.count };
 
-    ghost got = { λ s xs. ⊥ };
+    ghost got = { λ s. straight (λ xs. ⊥) };
 
     ghost finished = { λ s. None };
 
@@ -139,6 +144,10 @@ impl Sink for Counted<'_> {
         let taken = place.saturating_add(piece.len() as u64);
         self.watch.taken.store(taken, Ordering::SeqCst);
         Ok(piece.len())
+    }
+
+    fn flush(&mut self) -> Result<(), Failed> {
+        Ok(())
     }
 
     fn finish(&mut self) -> Result<(), Failed> {
