@@ -22,10 +22,14 @@ DIES_WITH_PARENT = 1
 BEFORE_A_FILE = (["run"], ["run", "--trace"], ["check"])
 
 
+def before_a_file(command):
+    return command in BEFORE_A_FILE or (command[:1] == ["gen"] and len(command) == 3)
+
+
 def job(words):
     """The words and the file that rt is handed, where the words name one; None where the file is none that can be read twice."""
     *command, file = words or [""]
-    if command not in BEFORE_A_FILE or words == ["run", "--trace"]:
+    if not before_a_file(command) or words == ["run", "--trace"]:
         return words, []
     if os.path.isfile(file) and os.access(file, os.R_OK):
         return [*command, "plan.toml"], ["--data", f"plan.toml={os.path.abspath(file)}"]

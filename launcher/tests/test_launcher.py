@@ -108,12 +108,15 @@ class Launcher(unittest.TestCase):
         self.assertEqual((ran.returncode, ran.stdout), (0, b"plan\ninput\n"), ran.stderr)
         self.assertEqual(ran.stderr.decode().splitlines()[-1], "edge 1 down close taken 1")
         self.assertEqual(self.run_streams("run", "--trace", given=b"input\n").returncode, 2)
+        ran = self.run_streams("gen", "6", "1", "a plan.toml", given=b"input\n")
+        self.assertEqual((ran.returncode, ran.stdout), (0, b"in 6\nplan\n"), ran.stderr)
 
     def test_a_missing_file_is_missing_for_an_answer_too(self):
         for name in ("stdin", "none.toml", "."):
             ran = self.run_streams("check", name)
             self.assertEqual((ran.returncode, ran.stdout), (9, b""), ran.stderr)
             self.assertTrue(ran.stderr.endswith(b"load fault\n"))
+        self.assertEqual(self.run_streams("gen", "6", "1", "none.toml").returncode, 9)
 
     def test_words_that_are_no_command_need_no_input(self):
         end, to = os.pipe()
@@ -360,7 +363,7 @@ class Launcher(unittest.TestCase):
     def test_help(self):
         ran = self.run_streams("--help")
         self.assertEqual((ran.returncode, ran.stderr), (0, b""))
-        for word in ("run FILE", "run --trace FILE", "check FILE", "script", "README.md"):
+        for word in ("run FILE", "run --trace FILE", "check FILE", "gen N SEED FILE", "script", "README.md"):
             self.assertIn(word, ran.stdout.decode())
         self.assertEqual(self.run_streams("--help", "me").returncode, 2)
 
