@@ -10,13 +10,7 @@ trap 'rm -rf "$work"' EXIT
 runs=${1:-5}
 . "$root/bench/measure.sh"
 
-mkdir -p "$work/crates/bench_lanes/src" "$work/crates/ws_lanes"
-cp "$root/HANDLES" "$work"
-cp "$root/bench/lanes.rt.txt" "$work/crates/bench_lanes/src/main.rt"
-for part in src specs proofs; do cp -R "$root/crates/ws_lanes/$part" "$work/crates/ws_lanes"; done
-printf 'ws_lanes:\nbench_lanes: ws_lanes\n' >"$work/crates.txt"
-(cd "$work/crates/bench_lanes" && rt run) >"$work/built" 2>&1 || { cat "$work/built" >&2; exit 1; }
-program=$work/crates/bench_lanes/out/bench_lanes
+program=$(built_alone lanes ws_lanes)
 
 while [ "$runs" -gt 0 ]; do
     "$program" measured | while read -r bytes kernel nanoseconds; do echo "$((nanoseconds / 1000))" >>"$work/$kernel.$bytes"; done

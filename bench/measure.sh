@@ -49,6 +49,24 @@ built() {
     echo "$root/crates/streams/out/streams"
 }
 
+# A program that is no crate of the gate, proved and built in `$work` over copies of the crates that it stands on: the name of its
+# source, `bench/NAME.rt.txt`, and the crates.
+built_alone() {
+    name=$1
+    shift
+    mkdir -p "$work/crates/bench_$name/src"
+    cp "$root/HANDLES" "$work"
+    cp "$root/bench/$name.rt.txt" "$work/crates/bench_$name/src/main.rt"
+    for crate in "$@"; do
+        mkdir "$work/crates/$crate"
+        for part in src specs proofs; do cp -R "$root/crates/$crate/$part" "$work/crates/$crate"; done
+        grep "^$crate[ :]" "$root/crates.txt" >>"$work/crates.txt"
+    done
+    echo "bench_$name: $*" >>"$work/crates.txt"
+    (cd "$work/crates/bench_$name" && rt run) >"$work/built" 2>&1 || { cat "$work/built" >&2; return 1; }
+    echo "$work/crates/bench_$name/out/bench_$name"
+}
+
 # The middle one of the numbers noted in this file.
 median() {
     sort -n "$1" | sed -n "$((($(wc -l <"$1") + 1) / 2))p"

@@ -10,17 +10,7 @@ trap 'rm -rf "$work"' EXIT
 runs=${1:-5}
 . "$root/bench/measure.sh"
 
-mkdir -p "$work/crates/bench_ports/src"
-cp "$root/HANDLES" "$work"
-cp "$root/bench/ports.rt.txt" "$work/crates/bench_ports/src/main.rt"
-for crate in ws_value ws_port ws_first_port; do
-    mkdir "$work/crates/$crate"
-    for part in src specs proofs; do cp -R "$root/crates/$crate/$part" "$work/crates/$crate"; done
-    grep "^$crate[ :]" "$root/crates.txt" >>"$work/crates.txt"
-done
-echo 'bench_ports: ws_value ws_port ws_first_port' >>"$work/crates.txt"
-(cd "$work/crates/bench_ports" && rt run) >"$work/built" 2>&1 || { cat "$work/built" >&2; exit 1; }
-program=$work/crates/bench_ports/out/bench_ports
+program=$(built_alone ports ws_value ws_port ws_first_port)
 
 while [ "$runs" -gt 0 ]; do
     "$program" measured | while read -r row threads milliseconds; do echo "$milliseconds" >>"$work/$row.$threads"; done
