@@ -1,14 +1,16 @@
 -- What a call answers, leaves and causes, and the checks with which most of them begin.
 use Rattle.std.specs.Prelude.{if◌then◌else◌, List, [], ◌∷◌, Err}
+use Rattle.ws_value.specs.declared.fault.Fault.{Fault}
+use Rattle.ws_value.specs.declared.fault.Fault.TheVariants.{TypeError as TypeErrorFault}
 use Rattle.ws_value.specs.declared.ids.PromiseId.{PromiseId}
 use Rattle.ws_value.specs.declared.ids.StreamId.{StreamId}
+use Rattle.ws_value.specs.declared.value.Plain.TheVariants.{Fault as FaultReason}
 use Rattle.ws_steps.specs.declared.calls.Reply.{Reply}
 use Rattle.ws_steps.specs.declared.calls.Reply.TheVariants.{Done as ReplyDone, Promise, Throws}
 use Rattle.ws_steps.specs.declared.calls.Thrown.TheVariants.{TypeError, DataClone, Unsupported}
 use Rattle.ws_steps.specs.declared.effects.Effect.{Effect}
 use Rattle.ws_steps.specs.declared.effects.Effect.TheVariants.{Settle as SettlePromise}
 use Rattle.ws_steps.specs.Promises.{next_id, fresh}
-use Rattle.ws_steps.specs.Effects.{type_error}
 use Rattle.ws_steps.specs.ReadableLooks as readable_looks
 use Rattle.ws_steps.specs.WritableLooks as writable_looks
 use Rattle.ws_steps.specs.Slots.{Slots, Done, nothing, causes, with_promises, has_readable, has_byte, has_source, has_writable, source_at, writable_at}
@@ -41,9 +43,12 @@ promising effects s =
     let p = next_id s.promises in
     begun (Promise p) (causes (effects p) (with_promises (fresh s.promises) s))
 
--- a promise that is rejected with a TypeError
+-- a promise that is rejected with this fault, and one that is rejected with a TypeError
+abbrev pub rejected_with : Fault → Slots → Begun
+rejected_with fault s = promising (λ p. SettlePromise p (Err (FaultReason fault)) ∷ []) s
+
 abbrev pub rejected : Slots → Begun
-rejected s = promising (λ p. SettlePromise p (Err type_error) ∷ []) s
+rejected s = rejected_with TypeErrorFault s
 
 -- a call on a readable stream with a default controller, on one with a byte controller, on one with any controller, or on a writable
 -- stream, where there is such a stream of this number

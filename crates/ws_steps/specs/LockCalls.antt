@@ -1,5 +1,7 @@
 -- The calls on a stream that answer a promise, those by its reader or writer, and the release of these.
-use Rattle.std.specs.Prelude.{ℕ, ◌*◌, ◌%◌, Bool, true, false, not, ◌&&◌, ◌||◌, nat_eq, if◌then◌else◌, List, [], ◌∷◌, ◌++◌, length, Option, Some, None, Err, slice_set}
+use Rattle.std.specs.Prelude.{ℕ, ◌*◌, ◌/◌, ◌%◌, Bool, true, false, not, ◌&&◌, ◌||◌, nat_eq, nat_le, nat_lt, if◌then◌else◌, List, [], ◌∷◌, ◌++◌, length, Option, Some, None, Err, slice_set}
+use Rattle.ws_value.specs.declared.fault.Fault.{Fault}
+use Rattle.ws_value.specs.declared.fault.Fault.TheVariants.{TypeError, RangeError}
 use Rattle.ws_value.specs.declared.ids.LockId.{LockId}
 use Rattle.ws_value.specs.declared.ids.PromiseId.{PromiseId}
 use Rattle.ws_value.specs.declared.ids.StreamId.{StreamId}
@@ -17,11 +19,10 @@ use Rattle.ws_steps.specs.declared.writable.WritableOperation.TheVariants.{Relea
 use Rattle.ws_steps.specs.declared.writable.Writer.{Writer}
 use Rattle.ws_steps.specs.Promises.{Table, next_id, fresh, is_pending_at}
 use Rattle.ws_steps.specs.Effects.{type_error}
-use Rattle.ws_steps.specs.Queues.{is_empty}
 use Rattle.ws_steps.specs.Readable as readable
 use Rattle.ws_steps.specs.Writable as writable
 use Rattle.ws_steps.specs.Slots.{Slots, causes, with_promises, source_at, writable_at}
-use Rattle.ws_steps.specs.Begun.{Begun, replies, unsupported, begun, promising, rejected, for_source, for_writable}
+use Rattle.ws_steps.specs.Begun.{Begun, replies, unsupported, begun, promising, rejected_with, rejected, for_source, for_writable}
 
 -- operations that answer a promise
 
@@ -82,11 +83,24 @@ abbrev pub is_view : ℕ → ℕ → Bool
 is_view room element =
     (nat_eq element 1 || nat_eq element 2 || nat_eq element 4 || nat_eq element 8) && nat_eq (room % element) 0
 
--- of a read into a room at least one element is to be filled, and no other number yet. An empty room is refused
+-- the least number of elements that a read into a room wants: one at least, and no more than the view has
+abbrev pub has_least : ℕ → ℕ → ℕ → Bool
+has_least room element least = nat_lt 0 least && nat_le least (room / element)
+
+-- what is wrong where it isn't so: an empty room or a least number of 0 is a TypeError, and a greater one than there are elements a
+-- RangeError
+abbrev pub least_fault : ℕ → ℕ → Fault
+least_fault room least = if nat_eq room 0 || nat_eq least 0 then TypeError else RangeError
+
+-- this fault comes before the TypeError of a reader that was released
+abbrev pub refuse_least : Fault → Slots → Option Lock → Begun
+refuse_least fault s lock = by_byob_reader (λ i. rejected_with fault) (rejected_with fault) s lock
+
+-- ReadableStreamBYOBReader's read()
 abbrev pub read_into_by : List ℕ → ℕ → ℕ → Slots → Option Lock → Begun
 read_into_by room element least s lock =
-    if not (is_view (length room) element && nat_eq least 1) then unsupported s
-    else if is_empty room then by_byob_reader (λ i. rejected) rejected s lock
+    if not (is_view (length room) element) then unsupported s
+    else if not (has_least (length room) element least) then refuse_least (least_fault (length room) least) s lock
     else by_byob_reader (read_into room element least) rejected s lock
 
 -- what a writer does while it has a stream, and what is answered once it is released; a reader has no such call
