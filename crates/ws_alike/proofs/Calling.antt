@@ -1,8 +1,9 @@
 -- The calls on streams, readers, writers and controllers don't look at a promise that isn't named, and name it nowhere.
-use Rattle.std.proofs.Common.{◌≡◌, ◌∙◌, ℕ, ◌+◌, ◌*◌, ◌<◌, ◌≤◌, Bool, true, false, not, ◌&&◌, nat_eq, if◌then◌else◌, List, [], ◌∷◌, ◌++◌, length, Option, Some, None, Err, refl, ap, arith}
+use Rattle.std.proofs.Common.{◌≡◌, ◌∙◌, ℕ, ◌+◌, ◌*◌, ◌<◌, ◌≤◌, Bool, true, false, not, ◌&&◌, if◌then◌else◌, List, [], ◌∷◌, ◌++◌, length, Option, Some, None, Err, refl, ap, arith}
 use Rattle.std.specs.Prelude.{slice_get}
 use Rattle.ws_value.specs.declared.fault.Fault.{Fault}
 use Rattle.ws_value.specs.declared.fault.Fault.TheVariants.{Stage as FaultStage, TypeError as FaultTypeError, RangeError as FaultRangeError, DataClone as FaultDataClone, User as FaultUser, Read as FaultRead, Write as FaultWrite, TooMuch as FaultTooMuch, Abort as FaultAbort, NoMemory as FaultNoMemory}
+use Rattle.ws_value.specs.declared.value.Plain.TheVariants.{Fault as FaultReason}
 use Rattle.ws_value.specs.declared.ids.HostId.{HostId}
 use Rattle.ws_value.specs.declared.ids.LockId.{LockId}
 use Rattle.ws_value.specs.declared.ids.PromiseId.{PromiseId}
@@ -19,8 +20,7 @@ use Rattle.ws_steps.specs.declared.effects.Owner.TheVariants.{Host, HalfOf, Bran
 use Rattle.ws_steps.specs.declared.locks.Lock.{Lock}
 use Rattle.ws_steps.specs.declared.locks.Lock.TheVariants.{Reader as ReaderLock, ByobReader, Writer as WriterLock, ReleasedWriter, Inner}
 use Rattle.ws_steps.specs.declared.writable.Writer.{Writer}
-use Rattle.ws_steps.specs.Begun.{Begun, replies, unsupported, throws_type_error, begun, promising, rejected, for_readable, for_byte, for_source, for_writable, does, unlocked_readable, unlocked_writable}
-use Rattle.ws_steps.specs.Effects.{type_error}
+use Rattle.ws_steps.specs.Begun.{Begun, replies, unsupported, throws_type_error, begun, promising, rejected_with, rejected, for_readable, for_byte, for_source, for_writable, does, unlocked_readable, unlocked_writable}
 use Rattle.ws_steps.specs.Promises.{Entry, Table, with_entry, next_id, fresh, is_pending_at}
 use Rattle.ws_steps.specs.Readable as readable
 use Rattle.ws_steps.specs.ReadableLooks as readable_looks
@@ -44,7 +44,7 @@ use Rattle.ws_steps.specs.declared.writable.WritableOperation.TheVariants.{Relea
 use Rattle.ws_steps.specs.Bytes as byte
 use Rattle.ws_steps.specs.ControllerCalls.{enqueue_by, enqueue_bytes, enqueue_call, finish_by, close_reply, finish_bytes, finish_call, fail_readable_by, fail_writable_by, fail, terminate_by, terminate, desired_by, desired, desired_of_writer, look, settle_host, is_request, request_by, request, thrown_by, respond_unless, respond}
 use Rattle.ws_steps.specs.Descriptors.{Descriptor, room_left, respond_throws}
-use Rattle.ws_steps.specs.LockCalls.{cancel, read, read_into, write, close, abort_unless, abort, by_reader, is_byob_reader, by_default_reader, by_byob_reader, is_view, read_into_by, by_writer, of_writer, closed_by, ready_by, with_lock, renewed, with_renewed, reject_renewed, release_reader, release_writer, release}
+use Rattle.ws_steps.specs.LockCalls.{cancel, read, read_into, write, close, abort_unless, abort, by_reader, is_byob_reader, by_default_reader, by_byob_reader, is_view, has_least, least_fault, refuse_least, read_into_by, by_writer, of_writer, closed_by, ready_by, with_lock, renewed, with_renewed, reject_renewed, release_reader, release_writer, release}
 use Rattle.ws_steps.specs.Queues.{is_empty}
 use Rattle.ws_steps.specs.Slots.{Slots, causes, with_promises, has_readable, has_byte, has_source, has_writable, readable_at, byte_at, source_at, writable_at, owner_at, lock_at, host_at, pending_host}
 use Rattle.ws_alike.specs.Named.{one, in_option, in_lock, in_writer, in_effects, in_slots}
@@ -87,8 +87,11 @@ promises p effects s none fits =
     let n = none (next_id s.promises) next in
     record { blind = λ x. rw (next-blind p x s.promises, fresh-blind p x s.promises fits.made) refl; apart = next; unnamed = omega (arith, m.unnamed, n, fits.none); more = m.more }
 
+refuses_with : (p : PromiseId) (fault : Fault) (s : Slots) → Fit p s → Calls p (rejected_with fault) s
+refuses_with p fault s fits = promises p (λ q. SettlePromise q (Err (FaultReason fault)) ∷ []) s (λ q n. omega (arith, n)) fits
+
 pub rejects : (p : PromiseId) (s : Slots) → Fit p s → Calls p rejected s
-rejects p s fits = promises p (λ q. SettlePromise q (Err type_error) ∷ []) s (λ q n. omega (arith, n)) fits
+rejects p s fits = let k = refuses_with p FaultTypeError s fits in record { blind = k.blind; apart = k.apart; unnamed = k.unnamed; more = k.more }
 
 -- checks
 
@@ -164,10 +167,11 @@ by_byob-calls p holding free s o h m fits = by-test p (λ z. by_reader holding f
 
 pub read_into_by-calls : (p : PromiseId) (room : List ℕ) (element least : ℕ) (s : Slots) (o : Option Lock) → Fit p s → Calls p (λ z. read_into_by room element least z o) s
 read_into_by-calls p room element least s o fits =
-    let a = by_byob-calls p (λ i. rejected) rejected s o (λ i. rejects p s fits) (rejects p s fits) fits in
+    let f : Fault = least_fault (length room) least in
+    let a = by_byob-calls p (λ i. rejected_with f) (rejected_with f) s o (λ i. refuses_with p f s fits) (refuses_with p f s fits) fits in
     let c = by_byob-calls p (read_into room element least) rejected s o (λ i. read_into-calls p room element least i s fits) (rejects p s fits) fits in
-    let j = by-test p (λ z. by_byob_reader (λ i. rejected) rejected z o) (λ z. by_byob_reader (read_into room element least) rejected z o) (is_empty room) s a c in
-    by-test p unsupported (λ z. if is_empty room then by_byob_reader (λ i. rejected) rejected z o else by_byob_reader (read_into room element least) rejected z o) (not (is_view (length room) element && nat_eq least 1)) s (refuses p s fits) j
+    let j = by-test p (λ z. refuse_least f z o) (λ z. by_byob_reader (read_into room element least) rejected z o) (not (has_least (length room) element least)) s a c in
+    by-test p unsupported (λ z. if not (has_least (length room) element least) then refuse_least f z o else by_byob_reader (read_into room element least) rejected z o) (not (is_view (length room) element)) s (refuses p s fits) j
 
 pub by_writer-calls : (p : PromiseId) (holding : StreamId → Slots → Begun) (free : Slots → Begun) (s : Slots) (o : Option Lock) → ((i : StreamId) → Calls p (holding i) s) → Calls p free s → Fit p s → Calls p (λ z. by_writer holding free z o) s
 by_writer-calls p holding free s None h m fits = refuses p s fits

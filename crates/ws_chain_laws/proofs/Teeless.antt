@@ -37,7 +37,7 @@ AreTeeless (Heard ∷ xs) = AreTeeless xs
 call-teeless : (c : Call) (s : Slots) → IsTeeless c → s.tees ≡ [] → (begin c s).done.slots.tees ≡ []
 call-teeless c s n h = each_call (λ (b : Begun). b.done.slots.tees ≡ []) c s (record {
   unchanged = λ reply. h;
-  rejected = h;
+  rejected = λ fault. h;
   make_readable = λ mark size start. h;
   make_bytes = λ mark auto start. h;
   make_writable = λ mark size start. h;

@@ -1,5 +1,5 @@
 -- No call closes the readable half of a transform stream but one that terminates it.
-use Rattle.std.proofs.Common.{◌≡◌, ℕ, ◌+◌, Bool, true, false, not, ◌&&◌, nat_eq, nat_lt, if◌then◌else◌, List, [], ◌∷◌, length, Option, Some, None, slice_get, refl, sym, ap, ◌∙◌}
+use Rattle.std.proofs.Common.{◌≡◌, ℕ, ◌+◌, Bool, true, false, not, ◌&&◌, nat_lt, if◌then◌else◌, List, [], ◌∷◌, length, Option, Some, None, slice_get, refl, sym, ap, ◌∙◌}
 use Rattle.ws_value.specs.declared.ids.{HostId.{HostId}, LockId.{LockId}, PipeId.{PipeId}, PromiseId.{PromiseId}, SignalId.{SignalId}, StreamId.{StreamId}}
 use Rattle.ws_value.specs.declared.value.{Plain.{Plain}, Value.{Value}}
 use Rattle.ws_steps.specs.declared.calls.{Answer.{Answer}, Call.{Call}, Reply.{Reply}, StartBy.{StartBy}, StartBy.TheVariants.{Now, Later}}
@@ -83,6 +83,9 @@ module _ (t : TransformId) (r : StreamId) (s : Slots) (halved : Halved s) (reads
   unchanged : (reply : Reply) → P (replying.replies reply s)
   unchanged reply = tt
 
+  rejected_with : (fault : Fault) → P (replying.rejected_with fault s)
+  rejected_with fault = (tt, tt)
+
   rejected : P (replying.rejected s)
   rejected = (tt, tt)
 
@@ -116,9 +119,10 @@ module _ (t : TransformId) (r : StreamId) (s : Slots) (halved : Halved s) (reads
 
   reads_into : (room : List ℕ) (element least : ℕ) (o : Option Lock) → P (lock_calls.read_into_by room element least s o)
   reads_into room element least o =
-      either P (not (lock_calls.is_view (length room) element && nat_eq least 1)) (replying.unsupported s) _ (λ e. tt)
-      (λ e. either P (is_empty room) (lock_calls.by_byob_reader (λ k. replying.rejected) replying.rejected s o) (lock_calls.by_byob_reader (lock_calls.read_into room element least) replying.rejected s o)
-      (λ f. by_byob_reader (λ k. replying.rejected) replying.rejected (λ k. rejected) rejected o) (λ f. by_byob_reader (lock_calls.read_into room element least) replying.rejected (λ k. (tt, tt)) rejected o))
+      let fault : Fault = lock_calls.least_fault (length room) least in
+      either P (not (lock_calls.is_view (length room) element)) (replying.unsupported s) _ (λ e. tt)
+      (λ e. either P (not (lock_calls.has_least (length room) element least)) (lock_calls.refuse_least fault s o) (lock_calls.by_byob_reader (lock_calls.read_into room element least) replying.rejected s o)
+      (λ f. by_byob_reader (λ k. replying.rejected_with fault) (replying.rejected_with fault) (λ k. rejected_with fault) (rejected_with fault) o) (λ f. by_byob_reader (lock_calls.read_into room element least) replying.rejected (λ k. (tt, tt)) rejected o))
 
   by_writer : (holding : StreamId → Slots → Begun) (free : Slots → Begun) → ((k : StreamId) → P (holding k s)) → P (free s) → (o : Option Lock) → P (lock_calls.by_writer holding free s o)
   by_writer holding free h f None = tt

@@ -63,7 +63,7 @@ module _ (Q : Slots → Type 0) (makes : Makes Q) where
   pub begin-makes : (c : Call) (s : Slots) → Q s → Q (begin c s).done.slots
   begin-makes c s q = each_call (λ (b : Begun). Q b.done.slots) c s (record {
     unchanged = λ reply. q;
-    rejected = makes.promise s q;
+    rejected = λ fault. makes.promise s q;
     make_readable = λ mark size start. makes.readable s _ mark size q;
     make_bytes = λ mark auto start. makes.bytes s mark auto q;
     get_byob = λ i is e. makes.locks _ _ (makes.promise s q);

@@ -115,7 +115,7 @@ port-below s WritableSide i k = added-below s (pipe_calls.end_of (record { 0 = l
 pub call-below : (c : Call) (s : Slots) → Below s → Below (begin c s).done.slots
 call-below c s k = each_call (λ (b : Begun). Below b.done.slots) c s (record {
   unchanged = λ reply. k;
-  rejected = k;
+  rejected = λ fault. k;
   make_readable = λ mark size start. added-below s (ReadableStream (readable.set_up Host mark size)) (λ t half e. cc) k;
   make_bytes = λ mark auto start. added-below s (ByteStream (byte.set_up mark auto)) (λ t half e. cc) k;
   get_byob = λ i is e. k;

@@ -1,6 +1,7 @@
 -- What holds of each beginning of a call holds of each call.
-use Rattle.std.proofs.Common.{◌≡◌, ℕ, ◌+◌, List, [], ◌∷◌, ◌++◌, length, Bool, not, ◌&&◌, Option, Some, None, ◌||◌, if◌then◌else◌, nat_lt, nat_eq, true, false, refl, sym, ap}
+use Rattle.std.proofs.Common.{◌≡◌, ℕ, ◌+◌, List, [], ◌∷◌, ◌++◌, length, Bool, not, ◌&&◌, Option, Some, None, ◌||◌, if◌then◌else◌, nat_lt, true, false, refl, sym, ap}
 use Rattle.ws_value.specs.declared.fault.Fault.{Fault}
+use Rattle.ws_value.specs.declared.fault.Fault.TheVariants.{TypeError as TypeErrorFault}
 use Rattle.ws_value.specs.declared.ids.HostId.{HostId}
 use Rattle.ws_value.specs.declared.ids.LockId.{LockId}
 use Rattle.ws_value.specs.declared.ids.PortId.{PortId}
@@ -45,7 +46,7 @@ use Rattle.ws_laws.proofs.Tables.{either, eq_numbers}
 -- what is to be shown of the beginnings of call c
 pub record Beginnings (P : Begun → Type 0) (c : Call) (s : Slots) : Type 0 where
   pub unchanged : (reply : Reply) → P (replies reply s)
-  pub rejected : P (replying.rejected s)
+  pub rejected : (fault : Fault) → P (replying.rejected_with fault s)
   pub make_readable : (mark : ℕ) (size : SizeBy) (start : StartBy) → P (making_calls.make_readable mark size start (record { 0 = length s.streams }) s)
   pub make_bytes : (mark auto : ℕ) (start : StartBy) → P (making_calls.make_bytes mark auto start (record { 0 = length s.streams }) s)
   pub make_writable : (mark : ℕ) (size : SizeBy) (start : StartBy) → P (making_calls.make_writable mark size start (record { 0 = length s.streams }) s)
@@ -167,9 +168,10 @@ module _ (P : Begun → Type 0) (c : Call) (s : Slots) (o : Beginnings P c s) wh
 
   read_into-each : (l : LockId) (room : List ℕ) (element least : ℕ) → c ≡ ReadInto l room element least → P (lock_calls.read_into_by room element least s (lock_at l s))
   read_into-each l room element least e =
-      either P (not (lock_calls.is_view (length room) element && nat_eq least 1)) _ _ (λ n. unsupported_each)
-      (λ y. either P (is_empty room) _ _ (λ n. by_byob-each (λ i. replying.rejected) replying.rejected (lock_at l s) (λ i closed at. o.rejected) o.rejected)
-      (λ n. by_byob-each (lock_calls.read_into room element least) replying.rejected (lock_at l s) (λ i closed at. o.read_into l i closed room element least e at) o.rejected))
+      let f : Fault = lock_calls.least_fault (length room) least in
+      either P (not (lock_calls.is_view (length room) element)) _ _ (λ n. unsupported_each)
+      (λ y. either P (not (lock_calls.has_least (length room) element least)) _ _ (λ n. by_byob-each (λ i. replying.rejected_with f) (replying.rejected_with f) (lock_at l s) (λ i closed at. o.rejected f) (o.rejected f))
+      (λ n. by_byob-each (lock_calls.read_into room element least) replying.rejected (lock_at l s) (λ i closed at. o.read_into l i closed room element least e at) (o.rejected TypeErrorFault)))
 
   by_writer-each : (holding : StreamId → Slots → Begun) (free : Slots → Begun) → ((i : StreamId) → P (holding i s)) → P (free s) → (lock : Option Lock) → P (by_writer holding free s lock)
   by_writer-each holding free h f None = unsupported_each
@@ -310,8 +312,8 @@ module _ (P : Begun → Type 0) (c : Call) (s : Slots) (o : Beginnings P c s) wh
       either P (has_source source s) _ _
       (λ e. either P (has_writable dest s) _ _
       (λ f. for_signal_where-each (pipe_calls.pipe_unlocked source dest prevent signal) signal
-      (either P (readable_looks.is_locked (source_at source s)) _ _ (λ l. o.rejected)
-      (λ l. either P (writable_looks.is_locked (writable_at dest s)) _ _ (λ m. o.rejected) (λ m. o.pipe source dest prevent signal e f l m))))
+      (either P (readable_looks.is_locked (source_at source s)) _ _ (λ l. o.rejected TypeErrorFault)
+      (λ l. either P (writable_looks.is_locked (writable_at dest s)) _ _ (λ m. o.rejected TypeErrorFault) (λ m. o.pipe source dest prevent signal e f l m))))
       (λ f. unsupported_each))
       (λ e. unsupported_each)
 
@@ -337,17 +339,17 @@ each_call P (GetByob i) s o =
     unlocked_readable-each P _ s o replying.throws_type_error making_calls.get_byob_of i (o.unchanged (Throws TypeError))
     (λ e. either P (has_byte i s) (making_calls.get_byob i s) (replying.throws_type_error s) (λ is. o.get_byob i is e) (λ n. o.unchanged (Throws TypeError)))
 each_call P (GetWriter i) s o = unlocked_writable-each P _ s o replying.throws_type_error making_calls.get_writer i (o.unchanged (Throws TypeError)) (λ e. o.get_writer i e)
-each_call P (Cancel i reason) s o = unlocked_readable-each P _ s o replying.rejected (lock_calls.cancel reason) i o.rejected (λ e. o.cancel reason i)
-each_call P (CancelBy l reason) s o = by_reader-each P _ s o (lock_calls.cancel reason) replying.rejected (lock_at l s) (λ i. o.cancel reason i) o.rejected
+each_call P (Cancel i reason) s o = unlocked_readable-each P _ s o replying.rejected (lock_calls.cancel reason) i (o.rejected TypeErrorFault) (λ e. o.cancel reason i)
+each_call P (CancelBy l reason) s o = by_reader-each P _ s o (lock_calls.cancel reason) replying.rejected (lock_at l s) (λ i. o.cancel reason i) (o.rejected TypeErrorFault)
 each_call P (ReadInto l room element least) s o = read_into-each P _ s o l room element least refl
-each_call P (Read l) s o = by_default-each P _ s o lock_calls.read replying.rejected (lock_at l s) (λ i closed e. o.read l i closed refl e) o.rejected
-each_call P (Write l v) s o = by_writer-each P _ s o (lock_calls.write v) replying.rejected (λ i. o.write l v i refl) o.rejected (lock_at l s)
-each_call P (Close i) s o = unlocked_writable-each P _ s o replying.rejected lock_calls.close i o.rejected (λ e. o.close i)
-each_call P (CloseBy l) s o = by_writer-each P _ s o lock_calls.close replying.rejected o.close o.rejected (lock_at l s)
+each_call P (Read l) s o = by_default-each P _ s o lock_calls.read replying.rejected (lock_at l s) (λ i closed e. o.read l i closed refl e) (o.rejected TypeErrorFault)
+each_call P (Write l v) s o = by_writer-each P _ s o (lock_calls.write v) replying.rejected (λ i. o.write l v i refl) (o.rejected TypeErrorFault) (lock_at l s)
+each_call P (Close i) s o = unlocked_writable-each P _ s o replying.rejected lock_calls.close i (o.rejected TypeErrorFault) (λ e. o.close i)
+each_call P (CloseBy l) s o = by_writer-each P _ s o lock_calls.close replying.rejected o.close (o.rejected TypeErrorFault) (lock_at l s)
 each_call P (Abort i reason) s o =
-    unlocked_writable-each P _ s o replying.rejected (lock_calls.abort reason) i o.rejected (λ e. abort-each P _ s o reason i (writable.answered_abort (writable_at i s)) refl)
+    unlocked_writable-each P _ s o replying.rejected (lock_calls.abort reason) i (o.rejected TypeErrorFault) (λ e. abort-each P _ s o reason i (writable.answered_abort (writable_at i s)) refl)
 each_call P (AbortBy l reason) s o =
-    by_writer-each P _ s o (lock_calls.abort reason) replying.rejected (λ i. abort-each P _ s o reason i (writable.answered_abort (writable_at i s)) refl) o.rejected (lock_at l s)
+    by_writer-each P _ s o (lock_calls.abort reason) replying.rejected (λ i. abort-each P _ s o reason i (writable.answered_abort (writable_at i s)) refl) (o.rejected TypeErrorFault) (lock_at l s)
 each_call P (Closed l) s o = closed-each P _ s o (lock_at l s)
 each_call P (Ready l) s o = ready-each P _ s o (lock_at l s)
 each_call P (Release l) s o = release-each P _ s o l (lock_at l s) refl

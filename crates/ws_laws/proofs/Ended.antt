@@ -161,7 +161,7 @@ other-owner y f g c WritableSide e = g c e
 call-ended : (c : Call) (s : Slots) → Ended s → Ended (begin c s).done.slots
 call-ended c s h = each_call (λ (b : Begun). Ended b.done.slots) c s (record {
   unchanged = λ reply. h;
-  rejected = h;
+  rejected = λ fault. h;
   make_readable = λ mark size start. stream-made (ReadableStream (readable.set_up Host mark size)) s (no-end _ (inl refl)) h;
   make_bytes = λ mark auto start. stream-made (ByteStream (byte.set_up mark auto)) s (no-end _ (inr (inr refl))) h;
   get_byob = λ i is e. h;

@@ -314,7 +314,7 @@ port-halved WritableSide i s h =
 call-halved : (c : Call) (s : Slots) → Halved s → Halved (begin c s).done.slots
 call-halved c s h = each_call (λ (b : Begun). Halved b.done.slots) c s (record {
   unchanged = λ reply. h;
-  rejected = h;
+  rejected = λ fault. h;
   make_readable = λ mark size start. rw (map-append stream_shape s.streams (ReadableStream (readable.set_up Host mark size) ∷ [])) (host-readable (stream_shapes s) (transform_shapes s) (tee_shapes s) h);
   make_bytes = λ mark auto start. rw (map-append stream_shape s.streams (ByteStream (byte.set_up mark auto) ∷ [])) (host-bytes (stream_shapes s) (transform_shapes s) (tee_shapes s) h);
   get_byob = λ i is e. h;
@@ -382,7 +382,7 @@ among-port s WritableSide i t x h = h
 pub call-among : (c : Call) (s : Slots) → Among (transform_shapes s) (transform_shapes (begin c s).done.slots)
 call-among c s = each_call (λ (b : Begun). Among (transform_shapes s) (transform_shapes b.done.slots)) c s (record {
   unchanged = λ reply t x h. h;
-  rejected = λ t x h. h;
+  rejected = λ fault t x h. h;
   make_readable = λ mark size start t x h. h;
   make_bytes = λ mark auto start t x h. h;
   get_byob = λ i is e t x h. h;
@@ -464,7 +464,7 @@ among-port_tees s WritableSide i t x h = h
 pub call-among_tees : (c : Call) (s : Slots) → AmongTees (tee_shapes s) (tee_shapes (begin c s).done.slots)
 call-among_tees c s = each_call (λ (b : Begun). AmongTees (tee_shapes s) (tee_shapes b.done.slots)) c s (record {
   unchanged = λ reply t x h. h;
-  rejected = λ t x h. h;
+  rejected = λ fault t x h. h;
   make_readable = λ mark size start t x h. h;
   make_bytes = λ mark auto start t x h. h;
   get_byob = λ i is e t x h. h;

@@ -17,6 +17,7 @@ pub mod Rows
 pub mod Apart
 pub mod Causes
 pub mod EachCall
+pub mod Into
 pub mod Begin
 pub mod Walker
 pub mod OnReadable

@@ -23,7 +23,7 @@ close-done s i calm t h = let same : close_reply (byte_at i s) ≡ ReplyDone = r
 throws_nothing : (c : Call) (s : Slots) → errs c s ≡ false → Idle s (begin c s)
 throws_nothing c s calm = each_call (Idle s) c s (record {
   unchanged = λ reply t h. refl;
-  rejected = λ t h. cc;
+  rejected = λ fault t h. cc;
   make_readable = λ mark size start t h. cc;
   make_bytes = λ mark auto start t h. cc;
   get_byob = λ i is e t h. cc;

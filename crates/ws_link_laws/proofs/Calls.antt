@@ -1,5 +1,5 @@
 -- What calls begin with that leave a link alone.
-use Rattle.std.proofs.Common.{◌≡◌, ◌⊎◌, inl, inr, ℕ, ◌+◌, Bool, true, false, not, ◌&&◌, ◌*◌, nat_eq, nat_lt, if◌then◌else◌, List, [], ◌∷◌, ◌++◌, length, Option, Some, None, Err, slice_get, refl, sym, ◌∙◌, subst}
+use Rattle.std.proofs.Common.{◌≡◌, ◌⊎◌, inl, inr, ℕ, ◌+◌, Bool, true, false, not, ◌*◌, nat_lt, if◌then◌else◌, List, [], ◌∷◌, ◌++◌, length, Option, Some, None, Err, slice_get, refl, sym, ◌∙◌, subst}
 use Rattle.ws_value.specs.declared.ids.HostId.{HostId}
 use Rattle.ws_value.specs.declared.ids.LockId.{LockId}
 use Rattle.ws_value.specs.declared.ids.PipeId.{PipeId}
@@ -10,6 +10,8 @@ use Rattle.ws_value.specs.declared.ids.StreamId.{StreamId}
 use Rattle.ws_value.specs.declared.value.Plain.{Plain}
 use Rattle.ws_value.specs.declared.value.Value.{Value}
 use Rattle.ws_value.specs.declared.fault.Fault.{Fault}
+use Rattle.ws_value.specs.declared.value.Plain.TheVariants.{Fault as FaultReason}
+use Rattle.ws_value.specs.declared.fault.Fault.TheVariants.{TypeError as TypeErrorFault}
 use Rattle.ws_steps.specs.declared.byte.ByteOperation.TheVariants.{PullInto, Respond as RespondBytes}
 use Rattle.ws_steps.specs.declared.calls.Answer.{Answer}
 use Rattle.ws_steps.specs.declared.calls.Call.{Call}
@@ -41,11 +43,9 @@ use Rattle.ws_steps.specs.PipeCalls as pipe_calls
 use Rattle.ws_steps.specs.Begun.{Begun}
 use Rattle.ws_steps.specs.Calls.{begin}
 use Rattle.ws_steps.specs.Descriptors.{Descriptor, respond_throws}
-use Rattle.ws_steps.specs.Effects.{type_error}
 use Rattle.ws_steps.specs.Histories.{is_same}
 use Rattle.ws_steps.specs.Pipes as pipe
 use Rattle.ws_steps.specs.Promises.{Table, next_id, fresh, is_pending_at}
-use Rattle.ws_steps.specs.Queues.{is_empty}
 use Rattle.ws_steps.specs.Readable as readable
 use Rattle.ws_steps.specs.ReadableLooks as readable_looks
 use Rattle.ws_steps.specs.WritableLooks as writable_looks
@@ -92,8 +92,11 @@ module _ (i j : StreamId) (p : PipeId) (s : Slots) (here : has_source i s ≡ tr
   does : (es : List Effect) → Each (IsOuter i j) es → Each (IsSilent (coming (giver_at i s) i)) es → P (replying.does es s)
   does es o c = quietly (replying.does es s) locks apart (λ w. refl) o c
 
+  rejected_with : (fault : Fault) → P (replying.rejected_with fault s)
+  rejected_with fault = promising (λ q. SettlePromise q (Err (FaultReason fault)) ∷ []) (tt, tt) (refl, tt)
+
   rejected : P (replying.rejected s)
-  rejected = promising (λ q. SettlePromise q (Err type_error) ∷ []) (tt, tt) (refl, tt)
+  rejected = rejected_with TypeErrorFault
 
   for_source : (k : StreamId) (operation : Slots → Begun) → P (operation s) → P (replying.for_source k operation s)
   for_source k operation h = either P (has_source k s) (operation s) (replying.unsupported s) (λ e. h) (λ e. unchanged (Throws Unsupported))
@@ -270,9 +273,10 @@ module _ (i j : StreamId) (p : PipeId) (s : Slots) (here : has_source i s ≡ tr
 
   read_into_by : (room : List ℕ) (element least : ℕ) (n : ℕ) (o : Option Lock) → slice_get s.locks n ≡ o → P (lock_calls.read_into_by room element least s o)
   read_into_by room element least n o e =
-      either P (not (lock_calls.is_view (length room) element && nat_eq least 1)) (replying.unsupported s) _ (λ c. unchanged (Throws Unsupported))
-      (λ c. either P (is_empty room) (lock_calls.by_byob_reader (λ k. replying.rejected) replying.rejected s o) (lock_calls.by_byob_reader (lock_calls.read_into room element least) replying.rejected s o)
-      (λ d. by_byob (λ k. replying.rejected) replying.rejected (λ k n. rejected) rejected n o e)
+      let fault : Fault = lock_calls.least_fault (length room) least in
+      either P (not (lock_calls.is_view (length room) element)) (replying.unsupported s) _ (λ c. unchanged (Throws Unsupported))
+      (λ c. either P (not (lock_calls.has_least (length room) element least)) (lock_calls.refuse_least fault s o) (lock_calls.by_byob_reader (lock_calls.read_into room element least) replying.rejected s o)
+      (λ d. by_byob (λ k. replying.rejected_with fault) (replying.rejected_with fault) (λ k n. rejected_with fault) (rejected_with fault) n o e)
       (λ d. by_byob (lock_calls.read_into room element least) replying.rejected (λ k n. promising (λ q. OnByte k (PullInto room element (least * element) (PromiseRequest q)) ∷ []) (tt, tt) (if_same (is_same i k), tt)) rejected n o e))
 
   -- the desired size of a branch of a tee isn't told
@@ -436,7 +440,7 @@ port-tees s WritableSide = refl
 pub call-untied : (i j : StreamId) (c : Call) (s : Slots) → leaves i j c ≡ true → all_untied i s.tees ≡ true → all_untied i (begin c s).done.slots.tees ≡ true
 call-untied i j c s l u = each_call (λ (b : Begun). all_untied i b.done.slots.tees ≡ true) c s (record {
   unchanged = λ reply. u;
-  rejected = u;
+  rejected = λ fault. u;
   make_readable = λ mark size start. u;
   make_bytes = λ mark auto start. u;
   make_writable = λ mark size start. u;

@@ -96,7 +96,7 @@ few-pipes c s =
     let l : length s.pipes ≤ suc (length s.pipes) = omega arith in
     each_call (λ (b : Begun). length b.done.slots.pipes ≤ suc (length s.pipes)) c s (record {
       unchanged = λ reply. l;
-      rejected = l;
+      rejected = λ fault. l;
       make_readable = λ mark size start. l;
       make_writable = λ mark size start. l;
       make_transform = λ kind m n start. l;

@@ -378,7 +378,7 @@ module _ (p : PipeId) where
   call-none : (c : Call) (s : Slots) → all (ends_by p) (begin c s).done.caused ≡ 0
   call-none c s = each_call (λ (b : Begun). all (ends_by p) b.done.caused ≡ 0) c s (record {
     unchanged = λ reply. refl;
-    rejected = refl;
+    rejected = λ fault. refl;
     make_readable = λ mark size start. refl;
     make_bytes = λ mark auto start. refl;
     get_byob = λ i is e. refl;

@@ -1,5 +1,6 @@
 -- What calls and jobs begin with: promises that they make stand in their first effects.
 use Rattle.std.proofs.Common.{◌≡◌, ℕ, ◌+◌, ◌≤◌, zero, suc, Bool, true, false, not, nat_eq, List, [], ◌∷◌, ◌++◌, length, Option, Some, None, Result, Err, slice_get, slice_set, refl, sym, ap, arith, Ok}
+use Rattle.ws_value.specs.declared.value.Plain.TheVariants.{Fault as FaultReason}
 use Rattle.std.specs.Prelude.{◌*◌}
 use Rattle.ws_value.specs.declared.ids.HostId.{HostId}
 use Rattle.ws_value.specs.declared.ids.PipeId.{PipeId}
@@ -28,7 +29,6 @@ use Rattle.ws_steps.specs.MakingCalls as making_calls
 use Rattle.ws_steps.specs.LockCalls as lock_calls
 use Rattle.ws_steps.specs.ControllerCalls as controller_calls
 use Rattle.ws_steps.specs.PipeCalls as pipe_calls
-use Rattle.ws_steps.specs.Effects.{type_error}
 use Rattle.ws_steps.specs.Pipes as pipe
 use Rattle.ws_steps.specs.Readable as readable
 use Rattle.ws_steps.specs.Writable as writable
@@ -274,7 +274,7 @@ sent-sound source dest j side s k =
 pub begin-sound : (c : Call) (s : Slots) → Sound none s → Begins (begin c s)
 begin-sound c s k = each_call Begins c s (record {
   unchanged = λ reply. k;
-  rejected = promising-sound (λ p. SettleEffect p (Err type_error) ∷ []) s (λ x p. omega arith) k;
+  rejected = λ fault. promising-sound (λ p. SettleEffect p (Err (FaultReason fault)) ∷ []) s (λ x p. omega arith) k;
   make_readable = λ mark size start. sound-less none _ _ (λ x. omega arith) (added-sound (ReadableStream (readable.set_up Host mark size)) s (λ x. refl) (λ x. refl) (λ e. refl) k);
   make_bytes = λ mark auto start. sound-less none _ _ (λ x. omega arith) (added-sound (ByteStream (byte.set_up mark auto)) s (λ x. refl) (λ x. refl) (λ e. refl) k);
   get_byob = λ i is e. sound-less (λ x. 0 + names x (next_id s.promises)) _ _ (λ x. omega arith) (locked-sound _ _ _ (fresh-sound none s k));

@@ -1,7 +1,7 @@
 -- The promise that a reply names is there, in every run: a new one, one of a reader or a writer, or one that an abort was answered before.
 -- Which promises are watched follows (`each_name_stays`).
 use Rattle.std.proofs.Common.{◌≡◌, ℕ, ◌+◌, ◌≤◌, ◌<◌, zero, suc, Bool, true, false, not, ◌||◌, is_some, if◌then◌else◌, List, [], ◌∷◌, ◌++◌, length, Option, Some, None, slice_get, slice_set, refl, sym, ap, subst, ◌∙◌, arith}
-use Rattle.std.specs.Prelude.{◌&&◌, nat_eq}
+use Rattle.std.specs.Prelude.{◌&&◌}
 use Rattle.ws_steps.specs.Queues.{is_empty}
 use Rattle.ws_steps.specs.declared.calls.Reply.{Reply}
 use Rattle.ws_steps.specs.declared.calls.Call.TheVariants.{Request, Respond}
@@ -186,10 +186,11 @@ by_byob-begins holding free s o h f = either Begins (lock_calls.is_byob_reader o
 
 read_into-begins : (room : List ℕ) (element least : ℕ) (s : Slots) (o : Option Lock) → Begins (lock_calls.read_into_by room element least s o)
 read_into-begins room element least s o =
-    either Begins (not (lock_calls.is_view (length room) element && nat_eq least 1)) _ _ (λ e. tt)
-    (λ e. either Begins (is_empty room) _ _
-    (λ f. by_byob-begins (λ i. replying.rejected) replying.rejected s o (λ i. next-there s.promises) (next-there s.promises))
-    (λ f. by_byob-begins (lock_calls.read_into room element least) replying.rejected s o (λ i. next-there s.promises) (next-there s.promises)))
+    let f : Fault = lock_calls.least_fault (length room) least in
+    either Begins (not (lock_calls.is_view (length room) element)) _ _ (λ e. tt)
+    (λ e. either Begins (not (lock_calls.has_least (length room) element least)) _ _
+    (λ g. by_byob-begins (λ i. replying.rejected_with f) (replying.rejected_with f) s o (λ i. next-there s.promises) (next-there s.promises))
+    (λ g. by_byob-begins (lock_calls.read_into room element least) replying.rejected s o (λ i. next-there s.promises) (next-there s.promises)))
 
 by_writer-begins : (holding : StreamId → Slots → Begun) (free : Slots → Begun) (s : Slots) (o : Option Lock) → ((i : StreamId) → Begins (holding i s)) → Begins (free s) → Begins (by_writer holding free s o)
 by_writer-begins holding free s None h f = tt
@@ -421,7 +422,7 @@ begin-locks c s k =
     (stands-then (fresh (fresh t)) (fresh (fresh (fresh t))) (fresh (fresh (fresh (fresh t)))) (fresh-stands (fresh (fresh t))) (fresh-stands (fresh (fresh (fresh t))))) in
     each_call (λ (b : Begun). OfLocks b.done.slots.promises b.done.slots.locks) c s (record {
       unchanged = λ reply. k.locks;
-      rejected = new;
+      rejected = λ fault. new;
       make_readable = λ mark size start. k.locks;
       make_bytes = λ mark auto start. k.locks;
       get_byob = λ i is e. locks-append (fresh t) s.locks (ByobReader (Some i) (next_id t) ∷ []) new (next-there t, tt);

@@ -139,7 +139,7 @@ sent-first s z i source dest WritableSide = (tt, begins-none (record { 0 = lengt
 call-first : (c : Call) (s : Slots) → InitFirst (begin c s).done.caused
 call-first c s = each_call (λ (b : Begun). InitFirst b.done.caused) c s (record {
   unchanged = λ reply. tt;
-  rejected = tt;
+  rejected = λ fault. tt;
   make_readable = λ mark size start. tt;
   make_writable = λ mark size start. tt;
   get_byob = λ i is e. tt;

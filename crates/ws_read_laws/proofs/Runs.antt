@@ -329,7 +329,7 @@ module _ (i : StreamId) where
   call-now : (c : Call) (s : Slots) (h : Told) → let z : Slots = (begin c s).done.slots in Now h (holders s) z.streams [] → Now h (holders z) z.streams (begin c s).done.caused
   call-now c s h = each_call (λ (b : Begun). Now h (holders s) b.done.slots.streams [] → Now h (holders b.done.slots) b.done.slots.streams b.done.caused) c s (record {
     unchanged = λ reply k. k;
-    rejected = λ k. others h s.locks s.locks s.pipes s.tees _ _ refl tt k;
+    rejected = λ fault k. others h s.locks s.locks s.pipes s.tees _ _ refl tt k;
     make_readable = λ hwm size start k. others h s.locks s.locks s.pipes s.tees _ _ refl tt k;
     make_writable = λ hwm size start k. others h s.locks s.locks s.pipes s.tees _ _ refl tt k;
     get_byob = λ j is free k. byob-comes h j s (next_id s.promises) (is_same i j) refl is k;

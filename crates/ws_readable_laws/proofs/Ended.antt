@@ -251,7 +251,7 @@ module _ (i : StreamId) where
   call-begins : (c : Call) (s : Slots) → Halved s → IsOver i s → Begins s (begin c s)
   call-begins c s halved over = each_call (Begins s) c s (record {
     unchanged = λ reply. inl refl;
-    rejected = inl refl;
+    rejected = λ fault. inl refl;
     make_readable = λ mark size start. inr (inl (tt, tt));
     make_bytes = λ mark auto start. inr (inl (tt, tt));
     get_byob = λ i is e. inl refl;

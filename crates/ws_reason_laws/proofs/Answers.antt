@@ -20,6 +20,7 @@ use Rattle.ws_steps.specs.Promises.{next_id}
 use Rattle.ws_steps.specs.ReadableLooks as readable_looks
 use Rattle.ws_steps.specs.Transform as transform
 use Rattle.ws_steps.specs.Slots.{Slots, most_streams, has_readable, has_byte, has_source, has_writable, readable_at, source_at, writable_at, lock_at}
+use Rattle.ws_laws.proofs.Into.{into-either}
 use Rattle.ws_laws.proofs.Tables.{either}
 use Rattle.ws_reason_laws.specs.Origins.{is_half, to_half, to_half_of, through_of}
 use Rattle.ws_reason_laws.specs.Reasons.{failure_of}
@@ -106,7 +107,7 @@ begun-good bad (GetWriter i) s l h = grind arith
 begun-good bad (Cancel i reason) s l h = cancelled-good bad s l i reason (omega (arith, h))
 begun-good bad (CancelBy l reason) s k h = cancelled_by-good bad s k reason (lock_at l s) (omega (arith, h))
 begun-good bad (Read l) s k h = grind arith
-begun-good bad (ReadInto l room element least) s k h = grind arith
+begun-good bad (ReadInto l room element least) s k h = into-either (λ b. bad_begun bad b ≡ 0) room element least s refl (λ f. refl) (λ i. refl) (lock_at l s)
 begun-good bad (Write l v) s k h = grind arith
 begun-good bad (Close i) s l h = grind arith
 begun-good bad (CloseBy l) s k h = grind arith

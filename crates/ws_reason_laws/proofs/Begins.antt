@@ -1,5 +1,6 @@
 -- What calls begin with keeps that nothing bad stands anywhere, where the reasons that they give aren't bad.
 use Rattle.std.proofs.Common.{◌≡◌, ℕ, suc, ◌+◌, ◌*◌, ◌≤◌, ◌<◌, Bool, true, false, nat_eq, nat_lt, ◌&&◌, if◌then◌else◌, List, [], ◌∷◌, ◌++◌, length, Option, Some, None, Result, Ok, Err, slice_get, refl, ap, subst, ◌∙◌, arith}
+use Rattle.ws_value.specs.declared.value.Plain.TheVariants.{Fault as FaultReason}
 use Rattle.ws_value.specs.declared.ids.PipeId.{PipeId}
 use Rattle.ws_value.specs.declared.ids.PromiseId.{PromiseId}
 use Rattle.ws_value.specs.declared.ids.SignalId.{SignalId}
@@ -404,7 +405,7 @@ module _ (bad : Badness) (me : PipeId) (own : Option ℕ) (s : Slots) (known : K
   known-with piped_behind c =
       each_call Begins c s (record {
         unchanged = λ reply b n. known;
-        rejected = λ b n. promising-known (λ p. Settle p (Err type_error) ∷ []) false (λ f tees p e. let z = settles_one f tees p.0 type_error e in omega (arith, z));
+        rejected = λ fault b n. promising-known (λ p. Settle p (Err (FaultReason fault)) ∷ []) false (λ f tees p e. let z = settles_one f tees p.0 (FaultReason fault) e in omega (arith, z));
         make_tee = λ i e there free untied b n. tee-known i _ _;
         make_readable = λ mark size start b n. plain-known _ _ refl refl (λ f tees g. let a = streams-append (class bad me f tees) 0 s.streams (ReadableStream (readable.set_up Host mark size)) (length s.streams) (omega arith) (omega (arith, g)) refl in omega (arith, g, a));
         make_writable = λ mark size start b n. plain-known _ _ refl refl (λ f tees g. let a = streams-append (class bad me f tees) 0 s.streams (WritableStream (writable.set_up Host mark size)) (length s.streams) (omega arith) (omega (arith, g)) refl in omega (arith, g, a));

@@ -1,5 +1,5 @@
 -- What calls bring through transform streams: no more than a TypeError and the reasons of cancels, and nothing where there is none.
-use Rattle.std.proofs.Common.{◌≡◌, ℕ, zero, suc, ◌+◌, ◌*◌, Bool, true, false, not, ◌&&◌, ◌||◌, nat_eq, nat_lt, if◌then◌else◌, List, [], ◌∷◌, ◌++◌, length, map, Option, Some, None, slice_get, refl, sym, ap, ◌∙◌, append_assoc, arith}
+use Rattle.std.proofs.Common.{◌≡◌, ℕ, zero, suc, ◌+◌, ◌*◌, Bool, true, false, ◌&&◌, ◌||◌, nat_lt, if◌then◌else◌, List, [], ◌∷◌, ◌++◌, length, map, Option, Some, None, slice_get, refl, sym, ap, ◌∙◌, append_assoc, arith}
 use Rattle.ws_value.specs.declared.ids.StreamId.{StreamId}
 use Rattle.ws_value.specs.declared.value.Plain.{Plain}
 use Rattle.ws_steps.specs.declared.calls.Call.{Call}
@@ -10,7 +10,7 @@ use Rattle.ws_steps.specs.declared.locks.Lock.{Lock}
 use Rattle.ws_steps.specs.declared.locks.Lock.TheVariants.{Reader, ByobReader}
 use Rattle.ws_steps.specs.declared.transform.Kind.{Kind}
 use Rattle.ws_steps.specs.declared.transform.Kind.TheVariants.{Identity}
-use Rattle.ws_steps.specs.LockCalls.{is_view}
+use Rattle.ws_steps.specs.LockCalls.{is_view, has_least}
 use Rattle.ws_steps.specs.Calls.{begin}
 use Rattle.ws_steps.specs.Effects.{type_error}
 use Rattle.ws_steps.specs.ReadableLooks as readable_looks
@@ -26,7 +26,6 @@ use Rattle.ws_reason_laws.specs.Origins.{is_half, to_half, to_half_of, by_kind, 
 use Rattle.ws_reason_laws.specs.Reasons.{cancel_of, cancels, BringsNothing, pull_errs, erred_with, erred_by, erred_by_read, erred}
 use Rattle.ws_steps.specs.declared.byte.RoomKind.TheVariants.{ForByob}
 use Rattle.ws_steps.specs.Bytes as byte
-use Rattle.ws_steps.specs.Queues.{is_empty}
 use Rattle.ws_reason_laws.proofs.Among.{same_reason, is_among}
 
 pub among-append : (r : Plain) (xs ys : List Plain) → is_among r (xs ++ ys) ≡ (is_among r xs || is_among r ys)
@@ -87,7 +86,7 @@ call-among r (Pipe i j prevent signal) s e =
 call-among r (MakeTransform kind m n start) s e = kind-among r kind s e
 call-among r (Finish i) s e = error-among r (has_byte i s && byte.close_throws (byte_at i s)) e
 call-among r (ReadInto l room element least) s e =
-    if-among r (is_view (length room) element && (nat_eq least 1 && not (is_empty room))) (erred_by_read (length room) element (least * element) s (lock_at l s))
+    if-among r (is_view (length room) element && has_least (length room) element least) (erred_by_read (length room) element (least * element) s (lock_at l s))
     (read-among r (length room) element (least * element) s (lock_at l s)) e
 call-among r c s e = grind (arith, e)
 
@@ -218,7 +217,7 @@ either_one false b t f g e = g e
 call_erred-among : (r : Plain) (c : Call) (s : Slots) → is_among r (erred_by c s) ≡ true → same_reason type_error r ≡ true
 call_erred-among r (Finish i) s e = one_error r (has_byte i s && byte.close_throws (byte_at i s)) e
 call_erred-among r (ReadInto l room element least) s e =
-    if_error r (is_view (length room) element && (nat_eq least 1 && not (is_empty room))) (erred_by_read (length room) element (least * element) s (lock_at l s))
+    if_error r (is_view (length room) element && has_least (length room) element least) (erred_by_read (length room) element (least * element) s (lock_at l s))
     (read_error r (length room) element (least * element) s (lock_at l s)) e
 call_erred-among r c s e = grind (arith, e)
 

@@ -1,5 +1,6 @@
 -- Which effects store a TypeError in a byte stream: a close and a read into a room, and these only where they stand first on the agenda.
-use Rattle.std.proofs.Common.{◌≡◌, ℕ, zero, suc, ◌*◌, Bool, true, false, not, ◌&&◌, if◌then◌else◌, List, [], ◌∷◌, ◌++◌, length, Option, Some, None, slice_get, nat_eq, inl, inr, refl, subst, ◌∙◌, map, arith}
+use Rattle.std.proofs.Common.{◌≡◌, ℕ, zero, suc, ◌*◌, Bool, true, false, not, ◌&&◌, if◌then◌else◌, List, [], ◌∷◌, ◌++◌, length, Option, Some, None, slice_get, inl, inr, refl, subst, ◌∙◌, map, arith}
+use Rattle.ws_value.specs.declared.fault.Fault.{Fault}
 use Rattle.ws_value.specs.declared.ids.PipeId.{PipeId}
 use Rattle.ws_value.specs.declared.ids.StreamId.{StreamId}
 use Rattle.ws_value.specs.declared.ids.TeeId.{TeeId}
@@ -37,7 +38,6 @@ use Rattle.ws_steps.specs.Calls.{begin}
 use Rattle.ws_steps.specs.Effects.{type_error}
 use Rattle.ws_steps.specs.Jobs.{job_effects}
 use Rattle.ws_steps.specs.Operations.{transform_operation, tee_operation, port_operation}
-use Rattle.ws_steps.specs.Queues.{is_empty}
 use Rattle.ws_steps.specs.Slots.{Slots, found, has_byte, byte_at, is_byte_stream, halves_at, on_transform_at, on_tee_at, on_port_at, clones_at, lock_at}
 use Rattle.ws_steps.specs.Tee as tee
 use Rattle.ws_steps.specs.Cross as cross
@@ -298,22 +298,21 @@ module _ (bad : Plain → ℕ) (s : Slots) where
   reads room element least (Some (ReleasedWriter w)) h = tt
   reads room element least (Some Inner) h = tt
 
-  refused : (lock : Option Lock) → Begins (lock_calls.by_byob_reader (λ i. replying.rejected) replying.rejected s lock)
-  refused lock = grind arith
+  refused : (fault : Fault) (lock : Option Lock) → Begins (lock_calls.refuse_least fault s lock)
+  refused fault lock = grind arith
 
   reads_into : (room : List ℕ) (element least : ℕ) (lock : Option Lock)
-      → bad_of bad (if lock_calls.is_view (length room) element && (nat_eq least 1 && not (is_empty room)) then erred_by_read (length room) element (least * element) s lock else []) ≡ 0
+      → bad_of bad (if lock_calls.is_view (length room) element && lock_calls.has_least (length room) element least then erred_by_read (length room) element (least * element) s lock else []) ≡ 0
       → Begins (lock_calls.read_into_by room element least s lock)
   reads_into room element least lock h =
-      either Begins (not (lock_calls.is_view (length room) element && nat_eq least 1)) (replying.unsupported s) _ (λ e. tt)
-      (λ e. either Begins (is_empty room) _ (lock_calls.by_byob_reader (lock_calls.read_into room element least) replying.rejected s lock) (λ f. refused lock)
-      (λ f. reads room element least lock (subst (λ (b : Bool). bad_of bad (if b then erred_by_read (length room) element (least * element) s lock else []) ≡ 0) (passes _ _ _ e f) h)))
+      either Begins (not (lock_calls.is_view (length room) element)) (replying.unsupported s) _ (λ e. tt)
+      (λ e. either Begins (not (lock_calls.has_least (length room) element least)) _ (lock_calls.by_byob_reader (lock_calls.read_into room element least) replying.rejected s lock) (λ f. refused (lock_calls.least_fault (length room) least) lock)
+      (λ f. reads room element least lock (subst (λ (b : Bool). bad_of bad (if b then erred_by_read (length room) element (least * element) s lock else []) ≡ 0) (passes _ _ e f) h)))
     where
-      passes : (a b c : Bool) → not (a && b) ≡ false → c ≡ false → a && (b && not c) ≡ true
-      passes true true false e f = refl
-      passes true true true e f = cc
-      passes true false c e f = cc
-      passes false b c e f = cc
+      passes : (a b : Bool) → not a ≡ false → not b ≡ false → a && b ≡ true
+      passes true true e f = refl
+      passes true false e f = cc
+      passes false b e f = cc
 
   pub erring-call : (c : Call) → bad_of bad (erred_by c s) ≡ 0 → Begins (begin c s)
   unfolding begin

@@ -1,15 +1,16 @@
 -- A realm whose calls make no transform stream has none.
 use Rattle.std.proofs.Common.{◌≡◌, Bool, true, false, List, [], ◌∷◌, map, Option, Some, None, refl, ap, ◌∙◌, arith}
 use Rattle.ws_steps.specs.declared.calls.Call.{Call}
-use Rattle.ws_steps.specs.declared.calls.Call.TheVariants.{MakeTransform}
+use Rattle.ws_steps.specs.declared.calls.Call.TheVariants.{MakeTransform, ReadInto}
 use Rattle.ws_steps.specs.declared.promises.Job.{Job}
 use Rattle.ws_steps.specs.Calls.{begin}
 use Rattle.ws_steps.specs.Jobs.{begin_job, job_begun}
 use Rattle.ws_steps.specs.Promises.{next_job}
 use Rattle.ws_steps.specs.Run.{Entry, Called, Worked, Heard, step, run}
-use Rattle.ws_steps.specs.Slots.{Slots}
+use Rattle.ws_steps.specs.Slots.{Slots, lock_at}
 use Rattle.ws_steps.specs.Transform as transform
 use Rattle.ws_laws.proofs.Halves.{step-shapes}
+use Rattle.ws_laws.proofs.Into.{into-either}
 use Rattle.ws_laws.proofs.Shapes.{transform_shape}
 
 -- whether an entry makes one
@@ -24,6 +25,7 @@ MakesNone _ = Unit {0}
 pub call-same : (c : Call) (s : Slots) → makes_transform c ≡ false → (begin c s).done.slots.transforms ≡ s.transforms
 unfolding begin
 call-same (MakeTransform kind writable_mark readable_mark start) s n = cc
+call-same (ReadInto l room element least) s n = into-either (λ b. b.done.slots.transforms ≡ s.transforms) room element least s refl (λ f. refl) (λ i. refl) (lock_at l s)
 call-same c s n = grind arith
 
 job-same : (s : Slots) (job : Option Job) → (job_begun s job).slots.transforms ≡ s.transforms

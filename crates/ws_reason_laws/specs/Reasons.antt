@@ -1,5 +1,5 @@
 -- Where the reason comes from with which a pipe's promise is rejected.
-use Rattle.std.specs.Prelude.{ℕ, ◌*◌, ◌≡◌, Bool, true, false, not, ◌&&◌, ◌||◌, nat_eq, if◌then◌else◌, List, [], ◌∷◌, ◌++◌, length, Option, Some, None, Contains}
+use Rattle.std.specs.Prelude.{ℕ, ◌*◌, ◌≡◌, Bool, true, false, not, ◌&&◌, ◌||◌, if◌then◌else◌, List, [], ◌∷◌, ◌++◌, length, Option, Some, None, Contains}
 use Rattle.ws_value.specs.declared.ids.PromiseId.{PromiseId}
 use Rattle.ws_value.specs.declared.ids.SignalId.{SignalId}
 use Rattle.ws_value.specs.declared.ids.StreamId.{StreamId}
@@ -20,7 +20,7 @@ use Rattle.ws_steps.specs.declared.locks.Lock.TheVariants.{ByobReader}
 use Rattle.ws_steps.specs.declared.pipes.Prevent.{Prevent}
 use Rattle.ws_steps.specs.declared.readable.ReadableState.TheVariants.{Errored}
 use Rattle.ws_steps.specs.Bytes as byte
-use Rattle.ws_steps.specs.LockCalls.{is_view}
+use Rattle.ws_steps.specs.LockCalls.{is_view, has_least}
 use Rattle.ws_steps.specs.Cross.{data_clone}
 use Rattle.ws_steps.specs.Descriptors.{Descriptor, fill_from_queue}
 use Rattle.ws_steps.specs.Effects.{type_error}
@@ -113,7 +113,7 @@ erred_by_read room element minimum s _ = []
 abbrev pub erred_by : Call → Slots → List Plain
 erred_by (Finish i) s = erred_with (has_byte i s && byte.close_throws (byte_at i s))
 erred_by (ReadInto l room element least) s =
-    if is_view (length room) element && (nat_eq least 1 && not (is_empty room)) then erred_by_read (length room) element (least * element) s (lock_at l s) else []
+    if is_view (length room) element && has_least (length room) element least then erred_by_read (length room) element (least * element) s (lock_at l s) else []
 erred_by _ s = []
 
 -- those of a run

@@ -19,9 +19,10 @@ ghost use Rattle.ws_reason_laws.specs.Origins.{EachReasonHasAnOrigin, EachStored
 /// A call brings the reason of a cancel of a readable half, by number or by a reader, through its transform stream;
 /// and a TypeError where it terminates one, where it makes a pipe from a readable half onto a destination that is
 /// closing or closed and may cancel its source, and where it makes an identity (this is counted, though no run is
-/// known that ends with it). It brings a TypeError into a byte stream where it closes it, or reads into a room of it,
-/// and a part of an element is left over. The call is told with the state in which it was made. What a pipe hands on
-/// by its cancels and aborts came in by one of these calls before.
+/// known that ends with it). It brings a TypeError into a byte stream where it closes it and a part of an element is
+/// left over, or where, once a close was requested, it reads into a room of it more than is queued. The call is told
+/// with the state in which it was made. What a pipe hands on by its cancels and aborts came in by one of these calls
+/// before.
 ///
 /// So where no call of a run does so, a pipe whose destination was neither closing nor closed is rejected only with a
 /// failure, also where the realm has transform streams; or with a DataCloneError where something that can't be cloned
@@ -53,11 +54,12 @@ pub fn each_stored_error_has_an_origin()
 ///
 /// That is the reason of a cancel, an abort, an error, a trigger, an error that was delivered over a port, or the
 /// failure of a host's algorithm, whatever the host does before the pipe is made and after it. It may be a TypeError
-/// too where the realm has a transform stream, or where a call of the run brought one into a byte stream: a close, or
-/// a read into a room, that left a part of an element over (a worked example has it). It may be the pair of a tee both
-/// of whose branches were cancelled: with that the source is cancelled, and no call gave it; any other pair is one that
-/// a call gave. It may be a DataCloneError where something that can't be cloned was given to a stream at the end of a
-/// port: with it that stream fails a write of such a chunk, and a cancel or an abort with such a reason.
+/// too where the realm has a transform stream, or where a call of the run brought one into a byte stream: a close that
+/// left a part of an element over (a worked example has it), or a read into a room that wanted more than was queued
+/// once a close was requested. It may be the pair of a tee both of whose branches were cancelled: with that the source
+/// is cancelled, and no call gave it; any other pair is one that a call gave. It may be a DataCloneError where
+/// something that can't be cloned was given to a stream at the end of a port: with it that stream fails a write of such
+/// a chunk, and a cancel or an abort with such a reason.
 ///
 /// Of: reasons, pipes, shutdown with an action.
 pub fn each_reason_was_given()

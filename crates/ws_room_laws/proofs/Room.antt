@@ -1,7 +1,9 @@
 -- What a call or a job takes, at each moment of it (`room_is_enough`).
 use Rattle.std.proofs.Common.{◌≡◌, ◌≤◌, ℕ, zero, suc, ◌+◌, ◌*◌, Bool, true, false, if◌then◌else◌, List, [], ◌∷◌, ◌++◌, length, Option, Some, None, Result, Err, refl, ap, arith}
-use Rattle.std.specs.Prelude.{slice_get, nat_lt, nat_eq, not, ◌&&◌}
+use Rattle.std.specs.Prelude.{slice_get, nat_lt, not, ◌&&◌}
 use Rattle.ws_value.specs.declared.fault.Fault.{Fault}
+use Rattle.ws_value.specs.declared.value.Plain.TheVariants.{Fault as FaultReason}
+use Rattle.ws_value.specs.declared.fault.Fault.TheVariants.{TypeError as TypeErrorFault}
 use Rattle.ws_value.specs.declared.ids.HostId.{HostId}
 use Rattle.ws_value.specs.declared.ids.LockId.{LockId}
 use Rattle.ws_value.specs.declared.ids.PipeId.{PipeId}
@@ -28,7 +30,6 @@ use Rattle.ws_steps.specs.declared.writable.WritableOperation.TheVariants.{Relea
 use Rattle.ws_value.specs.declared.value.Value.{Value}
 use Rattle.ws_value.specs.declared.value.Value.TheVariants.{Plain as PlainValue, Bytes}
 use Rattle.ws_steps.specs.declared.byte.ByteOperation.TheVariants.{Enqueue as EnqueueBytes, PullInto, Respond as RespondBytes}
-use Rattle.ws_steps.specs.Effects.{type_error}
 use Rattle.ws_steps.specs.ReadableLooks as readable_looks
 use Rattle.ws_steps.specs.WritableLooks as writable_looks
 use Rattle.ws_steps.specs.declared.{locks.Lock.{Lock}, locks.Lock.TheVariants.{Reader as ReaderLock, ByobReader, Writer as WriterLock, ReleasedWriter, Inner}, promises.Job.{Job}}
@@ -107,8 +108,11 @@ module _ (π : Prices) (i : StreamId) (g : SignalId) (counts : Counts π i) (s :
   promising-fits : (es : PromiseId → List Effect) → prices_of π (es (next_id s.promises)) + π.promise ≤ call_price π → Fits (replying.promising es s)
   promising-fits es h = let f = fresh-size π s.promises in omega (arith, h, f)
 
+  refused-fits : (fault : Fault) → Fits (replying.rejected_with fault s)
+  refused-fits fault = promising-fits (λ p. SettlePromise p (Err (FaultReason fault)) ∷ []) (omega arith)
+
   rejected-fits : Fits (replying.rejected s)
-  rejected-fits = promising-fits (λ p. SettlePromise p (Err type_error) ∷ []) (omega arith)
+  rejected-fits = refused-fits TypeErrorFault
 
   unsupported-fits : Fits (replying.unsupported s)
   unsupported-fits = replies-fits (Throws Unsupported)
@@ -312,10 +316,11 @@ module _ (π : Prices) (i : StreamId) (g : SignalId) (counts : Counts π i) (s :
 
   read_into_by-fits : (room : List ℕ) (element least : ℕ) (lock : Option Lock) → Fits (lock_calls.read_into_by room element least s lock)
   read_into_by-fits room element least lock =
-      let empty : Begun = lock_calls.by_byob_reader (λ j. replying.rejected) replying.rejected s lock in
+      let f : Fault = lock_calls.least_fault (length room) least in
+      let refused : Begun = lock_calls.refuse_least f s lock in
       let other : Begun = lock_calls.by_byob_reader (lock_calls.read_into room element least) replying.rejected s lock in
-      if-fits (not (lock_calls.is_view (length room) element && nat_eq least 1)) (replying.unsupported s) (if is_empty room then empty else other) unsupported-fits
-      (if-fits (is_empty room) empty other (by_byob_reader-fits (λ j. replying.rejected) replying.rejected (λ j. rejected-fits) rejected-fits lock)
+      if-fits (not (lock_calls.is_view (length room) element)) (replying.unsupported s) (if not (lock_calls.has_least (length room) element least) then refused else other) unsupported-fits
+      (if-fits (not (lock_calls.has_least (length room) element least)) refused other (by_byob_reader-fits (λ j. replying.rejected_with f) (replying.rejected_with f) (λ j. refused-fits f) (refused-fits f) lock)
       (by_byob_reader-fits (lock_calls.read_into room element least) replying.rejected (read_into-fits room element least) rejected-fits lock))
 
   write-fits : (v : Value) (j : StreamId) → Fits (lock_calls.write v j s)

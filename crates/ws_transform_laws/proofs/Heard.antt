@@ -197,7 +197,7 @@ module _ (t : TransformId) (r : StreamId) where
   call-grown : (s : Slots) (c : Call) → Grown s (begin c s).done.slots
   call-grown s c = each_call (λ (b : Begun). Grown s b.done.slots) c s (record {
     unchanged = λ reply. same-grown s s refl refl;
-    rejected = same-grown s _ refl refl;
+    rejected = λ fault. same-grown s _ refl refl;
     make_readable = λ mark size start. added-grown s _;
     make_writable = λ mark size start. added-grown s _;
     make_transform = λ kind m n start. made-grown s kind m n start;

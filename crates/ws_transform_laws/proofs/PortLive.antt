@@ -261,7 +261,7 @@ module _ (i : StreamId) (c : PortId) where
   call-ports : (call : Call) (s : Slots) → PortsNow s (begin call s).done.slots
   call-ports call s = each_call (λ (b : Begun). PortsNow s b.done.slots) call s (record {
     unchanged = λ reply. inl refl;
-    rejected = inl refl;
+    rejected = λ fault. inl refl;
     make_readable = λ mark size start. inl refl;
     make_bytes = λ mark auto start. inl refl;
     get_byob = λ i is e. inl refl;

@@ -46,7 +46,7 @@ port-sunk s WritableSide i h = more s.streams _ h (tt, tt)
 call-sunk : (c : Call) (s : Slots) → AreSunk s → AreSunk (begin c s).done.slots
 call-sunk c s h = each_call (λ (b : Begun). AreSunk b.done.slots) c s (record {
   unchanged = λ reply. h;
-  rejected = h;
+  rejected = λ fault. h;
   make_readable = λ mark size start. more s.streams _ h (tt, tt);
   make_bytes = λ mark auto start. more s.streams _ h (tt, tt);
   make_writable = λ mark size start. more s.streams _ h (tt, tt);

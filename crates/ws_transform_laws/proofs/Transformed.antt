@@ -183,7 +183,7 @@ module _ (i : StreamId) (t : TransformId) where
   call-even : (h : Both) (s : Slots) (c : Call) → Rest h s → Rest h (begin c s).done.slots
   call-even h s c k = each_call (λ (b : Begun). Rest h b.done.slots) c s (record {
     unchanged = λ reply. k;
-    rejected = same-even h s _ refl refl k;
+    rejected = λ fault. same-even h s _ refl refl k;
     make_readable = λ mark size start. added h s _ k;
     make_writable = λ mark size start. added h s _ k;
     make_transform = λ kind m n start. made h s kind m n start k;

@@ -371,7 +371,7 @@ module _ (t : TransformId) (r : StreamId) where
   call-known : (h : Reads) (s : Slots) (c : Call) → Known t r h s [] → Known t r h (begin c s).done.slots (begin c s).done.caused
   call-known h s c k = each_call (λ (b : Begun). Tied b.done.slots → Known t r h b.done.slots b.done.caused) c s (record {
     unchanged = λ reply tied. k;
-    rejected = λ tied. calls-same h s _ _ k tied refl refl (fresh-lighter s.promises) (one _ _ refl tt) (λ m. (tt, tt));
+    rejected = λ fault tied. calls-same h s _ _ k tied refl refl (fresh-lighter s.promises) (one _ _ refl tt) (λ m. (tt, tt));
     make_readable = λ mark size start tied. added h s _ _ k tied (one _ _ refl tt) (tt, tt);
     make_writable = λ mark size start tied. added h s _ _ k tied (one _ _ refl tt) (tt, tt);
     make_transform = λ kind m n start tied.

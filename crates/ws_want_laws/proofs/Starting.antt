@@ -411,7 +411,7 @@ module _ (t : TransformId) (i r : StreamId) where
   pub call-begins : (c : Call) (s : Slots) → Begins (begin c s)
   call-begins c s = each_call Begins c s (record {
     unchanged = λ reply. plain _ tt;
-    rejected = plain _ (grind arith);
+    rejected = λ fault. plain _ (grind arith);
     make_readable = λ mark size start. plain-own _ (λ o. (new-other s (ReadableStream (readable.set_up Host mark size)) (add_stream (ReadableStream (readable.set_up Host mark size)) s) refl (λ e. cc) o, tt));
     make_writable = λ mark size start. plain-own _ (λ o. (new-other s (WritableStream (writable.set_up Host mark size)) (add_stream (WritableStream (writable.set_up Host mark size)) s) refl (λ e. cc) o, tt));
     make_transform = λ kind m n start. made-by kind m n start s;

@@ -148,7 +148,7 @@ call_none : (i : StreamId) (s : Slots) (c : Call) → has_ended (writable_at i s
 call_none i s c e =
     each_call (λ (b : Begun). Each IsMaking b.done.caused ⊎ (has_ended (writable_at i b.done.slots).state ≡ true)) c s (record {
       unchanged = λ reply. inr e;
-      rejected = inr e;
+      rejected = λ fault. inr e;
       make_readable = λ mark size start. inl (tt, tt);
       make_bytes = λ mark auto start. inl (tt, tt);
       get_byob = λ j is f. inr e;

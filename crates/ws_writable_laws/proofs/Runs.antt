@@ -309,7 +309,7 @@ pub call-kept : (i : StreamId) (h : Writes) (s : Slots) (c : Call) → Kept i h 
 call-kept i h s c k =
     each_call (λ (b : Begun). Tied b.done.slots → Kept i h b.done.slots b.done.caused) c s (record {
       unchanged = λ reply o. k;
-      rejected = λ o. still-kept i h s (with_promises (fresh s.promises) s) _ refl (lightens-fresh s.promises) refl o k;
+      rejected = λ fault o. still-kept i h s (with_promises (fresh s.promises) s) _ refl (lightens-fresh s.promises) refl o k;
       make_readable = λ mark size start o. added_readable i h s (readable.set_up Host mark size) _ (nat_eq i.0 (length s.streams)) refl refl o k;
       make_bytes = λ mark auto start o. added_bytes i h s (byte.set_up mark auto) _ (nat_eq i.0 (length s.streams)) refl refl o k;
       get_byob = λ j is e o. still-kept i h s _ _ refl (lightens-fresh s.promises) refl o k;
@@ -445,7 +445,7 @@ WasHost i first s es = owner_at i s ≡ Host → owner_at i first ≡ Host
 pub call-was : (i : StreamId) (first s : Slots) (c : Call) → WasHost i first s [] → WasHost i first (begin c s).done.slots (begin c s).done.caused
 call-was i first s c k = each_call (λ (b : Begun). WasHost i first b.done.slots b.done.caused) c s (record {
   unchanged = λ reply. k;
-  rejected = k;
+  rejected = λ fault. k;
   make_readable = λ mark size start o. k (before s (ReadableStream (readable.set_up Host mark size)) i (slice_get s.streams i.0) refl o);
   make_bytes = λ mark auto start o. k (before s (ByteStream (byte.set_up mark auto)) i (slice_get s.streams i.0) refl o);
   get_byob = λ j is e. k;

@@ -81,7 +81,7 @@ opened WritableSide s i = refl
 pub call-adds : (c : Call) (s : Slots) → Adds s (begin c s)
 call-adds c s = each_call (Adds s) c s (record {
   unchanged = λ reply. inl refl;
-  rejected = inl refl;
+  rejected = λ fault. inl refl;
   make_readable = λ mark size start. inl refl;
   make_bytes = λ mark auto start. inl refl;
   get_byob = λ i is e. inl refl;

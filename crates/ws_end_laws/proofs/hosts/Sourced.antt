@@ -4,20 +4,21 @@ use Rattle.std.proofs.Common.{◌≡◌, ℕ, Bool, true, false, ◌⊎◌, inl,
 use Rattle.ws_value.specs.declared.{ids.HostId.{HostId}, ids.PromiseId.{PromiseId}}
 use Rattle.ws_value.specs.declared.value.Outcome.TheVariants.{Fulfilled}
 use Rattle.ws_value.specs.declared.value.Plain.{Plain}
-use Rattle.ws_steps.specs.declared.{calls.Answer.{Answer}, calls.Answer.TheVariants.{Ok as AnswerOk, Fail as AnswerFail}, calls.Call.{Call}, calls.Call.TheVariants.{Settle as SettleCall}, calls.Event.{Event}, calls.Event.TheVariants.{Host as HostCalled}}
+use Rattle.ws_steps.specs.declared.{calls.Answer.{Answer}, calls.Answer.TheVariants.{Ok as AnswerOk, Fail as AnswerFail}, calls.Call.{Call}, calls.Call.TheVariants.{Settle as SettleCall, ReadInto}, calls.Event.{Event}, calls.Event.TheVariants.{Host as HostCalled}}
 use Rattle.ws_steps.specs.declared.{calls.HostCall.{HostCall}}
 use Rattle.ws_steps.specs.declared.effects.Effect.{Effect}
 use Rattle.ws_steps.specs.declared.effects.Effect.TheVariants.{Give, Settle, CallHost}
 use Rattle.ws_steps.specs.declared.{effects.Gift.{Gift}, effects.Use.{Use}, effects.Use.TheVariants.{React, Resolve}}
 use Rattle.ws_steps.specs.declared.{promises.Job.{Job}, promises.Step.{Step}}
 use Rattle.ws_steps.specs.Promises.{Table, next_id, fresh, tell, settle, use_gift, first_job, next_job, after_next_job, watch}
-use Rattle.ws_steps.specs.Slots.{Slots, empty, Done, pending_host, host_at, with_promises}
+use Rattle.ws_steps.specs.Slots.{Slots, empty, Done, pending_host, host_at, lock_at, with_promises}
 use Rattle.ws_steps.specs.Turns.{row, call_host}
 use Rattle.ws_steps.specs.Jobs.{job_effects}
 use Rattle.ws_steps.specs.Begun.{Begun}
 use Rattle.ws_steps.specs.ControllerCalls.{settle_host, outcome_of}
 use Rattle.ws_steps.specs.Calls.{begin}
 use Rattle.ws_steps.specs.Run.{Entry, Called, step, older, after_event}
+use Rattle.ws_laws.proofs.Into.{into-either}
 use Rattle.ws_laws.proofs.Begin.{begin-makes}
 use Rattle.ws_laws.proofs.Tables.{eq_numbers, unequal_numbers}
 use Rattle.ws_promise_laws.proofs.Holds.{named}
@@ -239,6 +240,7 @@ module _ (is : Step → Bool) (mine : HostCall) where
   call-hosts : (c : Call) (s : Slots) → (IsSettle c → ⊥) → (begin c s).done.slots.hosts ≡ s.hosts
   unfolding begin
   call-hosts (SettleCall id a) s n = absurd (n tt)
+  call-hosts (ReadInto l room element least) s n = into-either (λ b. b.done.slots.hosts ≡ s.hosts) room element least s refl (λ f. refl) (λ i. refl) (lock_at l s)
   call-hosts c s n = grind arith
 
   none_settling : (h : Sofar) (q : PromiseId) {A : Type 0} → Settling h [] q → A

@@ -2,7 +2,7 @@
 use Rattle.std.proofs.Common.{◌≡◌, ℕ, ◌+◌, ◌<◌, Bool, true, false, is_some, ◌⊎◌, inl, inr, ⊎_elim, nat_eq, List, [], ◌∷◌, ◌++◌, length, Option, Some, None, Ok, Err, slice_get, slice_set, refl, sym, ap, subst, ◌∙◌, arith, append-nil, if◌then◌else◌}
 use Rattle.ws_value.specs.declared.{ids.HostId.{HostId}, ids.PromiseId.{PromiseId}, ids.StreamId.{StreamId}}
 use Rattle.ws_value.specs.declared.value.Plain.{Plain}
-use Rattle.ws_steps.specs.declared.{calls.Answer.{Answer}, calls.Answer.TheVariants.{Ok as AnswerOk, Fail as AnswerFail}, calls.Call.{Call}, calls.Call.TheVariants.{Settle as SettleCall}}
+use Rattle.ws_steps.specs.declared.{calls.Answer.{Answer}, calls.Answer.TheVariants.{Ok as AnswerOk, Fail as AnswerFail}, calls.Call.{Call}, calls.Call.TheVariants.{Settle as SettleCall, ReadInto}}
 use Rattle.ws_steps.specs.declared.{calls.HostCall.{HostCall}, calls.HostCall.TheVariants.{Write as HostWrite}}
 use Rattle.ws_steps.specs.declared.effects.Owner.TheVariants.{Host}
 use Rattle.ws_steps.specs.declared.effects.Effect.{Effect}
@@ -11,7 +11,7 @@ use Rattle.ws_steps.specs.declared.{promises.Job.{Job}}
 use Rattle.ws_steps.specs.declared.writable.WritableOperation.TheVariants.{WriteSettled}
 use Rattle.ws_steps.specs.declared.writable.WritableOperation.{WritableOperation}
 use Rattle.ws_steps.specs.Promises.{first_job, next_job, after_next_job, watch}
-use Rattle.ws_steps.specs.Slots.{Slots, empty, Done, pending_host, host_at, with_promises, writable_at, owner_at}
+use Rattle.ws_steps.specs.Slots.{Slots, empty, Done, pending_host, host_at, lock_at, with_promises, writable_at, owner_at}
 use Rattle.ws_steps.specs.Turns.{row}
 use Rattle.ws_steps.specs.Jobs.{job_effects}
 use Rattle.ws_steps.specs.Begun.{Begun}
@@ -19,6 +19,7 @@ use Rattle.ws_steps.specs.ControllerCalls.{settle_host, outcome_of}
 use Rattle.ws_steps.specs.Calls.{begin}
 use Rattle.ws_steps.specs.Run.{Entry, Called, run, step, older, after_event}
 use Rattle.ws_steps.specs.Histories.{is_same, over}
+use Rattle.ws_laws.proofs.Into.{into-either}
 use Rattle.ws_laws.proofs.Begin.{begin-makes}
 use Rattle.ws_laws.proofs.Lists.{Each}
 use Rattle.ws_laws.proofs.Tables.{is_same-refl, same_id, eq_numbers, unequal_numbers}
@@ -57,6 +58,7 @@ IsSettle c = ⊥
 call-hosts : (c : Call) (s : Slots) → (IsSettle c → ⊥) → (begin c s).done.slots.hosts ≡ s.hosts
 unfolding begin
 call-hosts (SettleCall id a) s n = absurd (n tt)
+call-hosts (ReadInto l room element least) s n = into-either (λ b. b.done.slots.hosts ≡ s.hosts) room element least s refl (λ f. refl) (λ i. refl) (lock_at l s)
 call-hosts c s n = grind arith
 
 module _ (j : StreamId) where

@@ -421,7 +421,7 @@ module _ (i : StreamId) where
       let quiet : (z : Slots) (es : List Effect) → in_locks d i z.locks ≡ in_locks d i s.locks → z.pipes ≡ s.pipes → z.tees ≡ s.tees → z.streams ≡ s.streams → Each IsCalm es → Balanced d i z es = others d i s k in
       each_call (Other d) c s (record {
         unchanged = λ reply. inl k;
-        rejected = inl (quiet _ _ refl refl refl refl (tt, tt));
+        rejected = λ fault. inl (quiet _ _ refl refl refl refl (tt, tt));
         make_readable = λ mark size start. inl (made d i s k (ReadableStream (readable.set_up Host mark size)) _ (new_readable d Host mark size) (tt, tt));
         make_writable = λ mark size start. inl (made d i s k (WritableStream (writable.set_up Host mark size)) _ (new_writable d Host mark size) (tt, tt));
         get_byob = λ j is e. inl (get_byob-balanced d j s e k);

@@ -72,7 +72,7 @@ end-calm WritableSide j = tt
 pub call-first : (c : Call) (s : Slots) → TakesFirst (begin c s).done.caused
 call-first c s = each_call (λ (b : Begun). TakesFirst b.done.caused) c s (record {
   unchanged = λ reply. tt;
-  rejected = tt;
+  rejected = λ fault. tt;
   make_readable = λ mark size start. starts-first (record { 0 = length s.streams }) (ReadableStart (record { 0 = length s.streams })) start;
   make_writable = λ mark size start. starts-first (record { 0 = length s.streams }) (WritableStart (record { 0 = length s.streams })) start;
   get_byob = λ i is e. tt;
@@ -142,7 +142,7 @@ row-told s e es k =
 pub call-told : (c : Call) (s : Slots) → Each (IsToldBytes (begin c s).done.slots) (begin c s).done.caused
 call-told c s = each_call (λ (b : Begun). Each (IsToldBytes b.done.slots) b.done.caused) c s (record {
   unchanged = λ reply. tt;
-  rejected = (tt, tt);
+  rejected = λ fault. (tt, tt);
   make_readable = λ mark size start. (tt, tt);
   make_writable = λ mark size start. (tt, tt);
   get_byob = λ i is e. (is, tt);

@@ -69,7 +69,7 @@ port-defaults s WritableSide h = one-more s.streams s.tees _ h
 call-defaults : (c : Call) (s : Slots) → Defaulted s [] → Defaulted (begin c s).done.slots []
 call-defaults c s h = each_call (λ (b : Begun). ReadDefaults b.done.slots.streams b.done.slots.tees) c s (record {
   unchanged = λ reply. h;
-  rejected = h;
+  rejected = λ fault. h;
   make_readable = λ mark size start. one-more s.streams s.tees _ h;
   make_bytes = λ mark auto start. one-more s.streams s.tees _ h;
   get_byob = λ i is e. h;

@@ -8,15 +8,16 @@ use Rattle.ws_steps.specs.declared.calls.Call.TheVariants.{Send, Open}
 use Rattle.std.proofs.Common.{◌≡◌, ℕ, zero, suc, ◌+◌, ◌≤◌, Bool, true, false, nat_lt, nat_eq, List, [], ◌∷◌, ◌++◌, length, map, slice_get, refl, sym, ap, ◌∙◌, arith}
 use Rattle.ws_value.specs.declared.ids.StreamId.{StreamId}
 use Rattle.ws_steps.specs.declared.calls.Call.{Call}
-use Rattle.ws_steps.specs.declared.calls.Call.TheVariants.{MakeReadable, MakeBytes, MakeWritable, MakeTransform, Tee}
+use Rattle.ws_steps.specs.declared.calls.Call.TheVariants.{MakeReadable, MakeBytes, MakeWritable, MakeTransform, Tee, ReadInto}
 use Rattle.ws_steps.specs.declared.effects.Effect.{Effect}
 use Rattle.ws_steps.specs.Begun.{Begun}
 use Rattle.ws_steps.specs.Calls.{begin}
 use Rattle.ws_steps.specs.Histories.{is_same}
 use Rattle.ws_steps.specs.ReadableLooks.{is_locked}
 use Rattle.ws_steps.specs.Run.{Entry, run}
-use Rattle.ws_steps.specs.Slots.{Slots, Stream, is_writable_stream, has_writable, has_source, has_byte, source_at, is_teed, empty, most_streams}
+use Rattle.ws_steps.specs.Slots.{Slots, Stream, is_writable_stream, has_writable, has_source, has_byte, source_at, lock_at, is_teed, empty, most_streams}
 use Rattle.ws_steps.specs.Turns.{row}
+use Rattle.ws_laws.proofs.Into.{into-either}
 use Rattle.ws_laws.proofs.Shapes.{stream_shape, row-stream_shapes}
 use Rattle.ws_laws.proofs.Tables.{either, eq_numbers}
 use Rattle.ws_laws.proofs.Walker.{Stays, run-stays}
@@ -59,6 +60,7 @@ module _ (s : Slots) (few : length s.streams ≤ most_streams) where
 
   still : (c : Call) → IsNoMake c → (begin c s).done.slots.streams ≡ s.streams
   unfolding begin
+  still (ReadInto l room element least) n = into-either (λ b. b.done.slots.streams ≡ s.streams) room element least s refl (λ f. refl) (λ i. refl) (lock_at l s)
   still c n = grind (arith, n)
 
   tee-few : (i : StreamId) → IsFew (begin (Tee i) s)

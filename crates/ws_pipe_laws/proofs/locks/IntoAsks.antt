@@ -1,6 +1,8 @@
 -- What a reader asks, by its call: where it has the stream no pipe has it, and a room has room for its least.
-use Rattle.std.specs.Prelude.{◌%◌, nat_le}
-use Rattle.std.proofs.Common.{◌≡◌, ◌⊎◌, inl, inr, ℕ, ◌*◌, ◌≤◌, Bool, true, false, not, ◌&&◌, ◌||◌, nat_eq, List, [], ◌∷◌, length, Option, Some, None, slice_get, refl, ap, arith}
+use Rattle.std.specs.Prelude.{◌/◌, ◌%◌}
+use Rattle.std.proofs.Common.{◌≡◌, ◌⊎◌, inl, inr, ℕ, ◌*◌, ◌≤◌, Bool, true, false, not, ◌||◌, nat_eq, List, [], ◌∷◌, length, Option, Some, None, slice_get, refl, ap, arith}
+use Rattle.ws_value.specs.declared.fault.Fault.{Fault}
+use Rattle.ws_value.specs.declared.fault.Fault.TheVariants.{TypeError}
 use Rattle.ws_value.specs.declared.{ids.LockId.{LockId}, ids.PipeId.{PipeId}, ids.PromiseId.{PromiseId}, ids.StreamId.{StreamId}}
 use Rattle.ws_steps.specs.declared.calls.Call.TheVariants.{ReadInto}
 use Rattle.ws_steps.specs.declared.effects.Effect.TheVariants.{Readable as OnReadable}
@@ -13,10 +15,9 @@ use Rattle.ws_steps.specs.Begun.{Begun}
 use Rattle.ws_steps.specs.Calls.{begin}
 use Rattle.ws_steps.specs.Pipes as pipe
 use Rattle.ws_steps.specs.Promises.{next_id}
-use Rattle.ws_steps.specs.Queues.{is_empty}
 use Rattle.ws_steps.specs.Slots.{Slots, has_source, lock_at, as_pipe}
-use Rattle.ws_laws.proofs.Tables.{either, is_same-refl, eq_numbers}
-use Rattle.ws_laws.proofs.Truth.{and_left, and_right}
+use Rattle.ws_laws.proofs.Tables.{either, is_same-refl}
+use Rattle.ws_laws.proofs.Truth.{and_left}
 use Rattle.ws_pipe_laws.specs.pipes.PipeReads.{one_if}
 use Rattle.ws_pipe_laws.specs.locks.Locks.{Reading, has, holds}
 use Rattle.ws_pipe_laws.proofs.locks.Asking.{other, IsOwn, ReadsFirst, Asks, one_at_most}
@@ -44,40 +45,29 @@ reader-asks s l i closed q e b =
     let self = ap one_if (is_same-refl i) in
     (omega (arith, n, self), own-of s l i (Reader (Some i) closed) q self e b)
 
--- a room of whole elements, where it isn't empty, has room for one
+-- so many elements as a view has have room in it
 
 view-element : (element : ℕ) → (nat_eq element 1 || nat_eq element 2 || nat_eq element 4 || nat_eq element 8) ≡ true → (element ≡ 1) ⊎ ((element ≡ 2) ⊎ ((element ≡ 4) ⊎ (element ≡ 8)))
 view-element element e = grind (arith, e)
 
-fits : (m n : ℕ) → m ≤ n → nat_le m n ≡ true
-fits m n l = grind (arith, l)
+-- whole elements, at least one, of no more bytes than there are
+three : (n element least : ℕ) → (least * element) % element ≡ 0 → 1 ≤ least * element → least * element ≤ n → byte.is_least n element (least * element) ≡ true
+three n element least whole some few = grind (arith, whole, some, few)
 
-whole-two : (n : ℕ) → n % 2 ≡ 0 → 1 ≤ n → 2 ≤ n
-whole-two n m few = omega (arith, m, few)
+element-room : (n element least : ℕ) → (element ≡ 1) ⊎ ((element ≡ 2) ⊎ ((element ≡ 4) ⊎ (element ≡ 8))) → 1 ≤ least → least ≤ n / element → byte.is_least n element (least * element) ≡ true
+element-room n element least (inl e) some few = rw e (three n 1 least (omega arith) (omega (arith, some)) (let k : least ≤ n / 1 = rw e at few in omega (arith, k)))
+element-room n element least (inr (inl e)) some few = rw e (three n 2 least (omega arith) (omega (arith, some)) (let k : least ≤ n / 2 = rw e at few in omega (arith, k)))
+element-room n element least (inr (inr (inl e))) some few = rw e (three n 4 least (omega arith) (omega (arith, some)) (let k : least ≤ n / 4 = rw e at few in omega (arith, k)))
+element-room n element least (inr (inr (inr e))) some few = rw e (three n 8 least (omega arith) (omega (arith, some)) (let k : least ≤ n / 8 = rw e at few in omega (arith, k)))
 
-whole-four : (n : ℕ) → n % 4 ≡ 0 → 1 ≤ n → 4 ≤ n
-whole-four n m few = omega (arith, m, few)
+some-least : (n element least : ℕ) → lock_calls.has_least n element least ≡ true → (1 ≤ least) × (least ≤ n / element)
+some-least n element least e = (grind (arith, e), grind (arith, e))
 
-whole-eight : (n : ℕ) → n % 8 ≡ 0 → 1 ≤ n → 8 ≤ n
-whole-eight n m few = omega (arith, m, few)
-
-element-room : (n element : ℕ) → (element ≡ 1) ⊎ ((element ≡ 2) ⊎ ((element ≡ 4) ⊎ (element ≡ 8))) → n % element ≡ 0 → 1 ≤ n → byte.is_least n element (1 * element) ≡ true
-element-room n element (inl e) m few = rw e (rw (fits 1 n few) refl)
-element-room n element (inr (inl e)) m few = rw e (rw (fits 2 n (whole-two n (rw e at m) few)) refl)
-element-room n element (inr (inr (inl e))) m few = rw e (rw (fits 4 n (whole-four n (rw e at m) few)) refl)
-element-room n element (inr (inr (inr e))) m few = rw e (rw (fits 8 n (whole-eight n (rw e at m) few)) refl)
-
-least-room : (n element least : ℕ) → (lock_calls.is_view n element && nat_eq least 1) ≡ true → 1 ≤ n → byte.is_least n element (least * element) ≡ true
-least-room n element least e few =
-    let view = and_left (lock_calls.is_view n element) (nat_eq least 1) e in
-    let one : least ≡ 1 = eq_numbers least 1 (and_right (lock_calls.is_view n element) (nat_eq least 1) e) in
+least-room : (n element least : ℕ) → lock_calls.is_view n element ≡ true → lock_calls.has_least n element least ≡ true → byte.is_least n element (least * element) ≡ true
+least-room n element least view e =
     let kind = and_left _ (nat_eq (n % element) 0) view in
-    let whole = and_right _ (nat_eq (n % element) 0) view in
-    rw one (element-room n element (view-element element kind) (eq_numbers (n % element) 0 whole) few)
-
-some-room : (room : List ℕ) → is_empty room ≡ false → 1 ≤ length room
-some-room [] e = cc
-some-room (b ∷ bs) e = omega arith
+    let some = some-least n element least e in
+    element-room n element least (view-element element kind) some.0 some.1
 
 not_not : (b : Bool) → not b ≡ false → b ≡ true
 not_not true e = refl
@@ -93,20 +83,21 @@ module _ (room : List ℕ) (element least : ℕ) (s : Slots) (l : LockId) (k : (
       let self = ap one_if (is_same-refl i) in
       (tt, record { some = omega (arith, n, self); own = own-of s l i (ByobReader (Some i) closed) (next_id s.promises) self e (k i); promised = λ p. refl; least = fit })
 
-  by_lock : (holding : StreamId → Slots → Begun) (lock : Option Lock) → lock_at l s ≡ lock → ((i : StreamId) (closed : PromiseId) → lock_at l s ≡ Some (ByobReader (Some i) closed) → Fits (holding i s))
-      → Fits (lock_calls.by_byob_reader holding replying.rejected s lock)
-  by_lock holding None e h = (tt, tt)
-  by_lock holding (Some (Reader stream closed)) e h = (tt, tt)
-  by_lock holding (Some (ByobReader (Some i) closed)) e h = either Fits (has_source i s) (holding i s) (replying.unsupported s) (λ there. h i closed e) (λ none. (tt, tt))
-  by_lock holding (Some (ByobReader None closed)) e h = (tt, tt)
-  by_lock holding (Some (Writer i)) e h = (tt, tt)
-  by_lock holding (Some (ReleasedWriter w)) e h = (tt, tt)
-  by_lock holding (Some Inner) e h = (tt, tt)
+  by_lock : (holding : StreamId → Slots → Begun) (fault : Fault) (lock : Option Lock) → lock_at l s ≡ lock → ((i : StreamId) (closed : PromiseId) → lock_at l s ≡ Some (ByobReader (Some i) closed) → Fits (holding i s))
+      → Fits (lock_calls.by_byob_reader holding (replying.rejected_with fault) s lock)
+  by_lock holding fault None e h = (tt, tt)
+  by_lock holding fault (Some (Reader stream closed)) e h = (tt, tt)
+  by_lock holding fault (Some (ByobReader (Some i) closed)) e h = either Fits (has_source i s) (holding i s) (replying.unsupported s) (λ there. h i closed e) (λ none. (tt, tt))
+  by_lock holding fault (Some (ByobReader None closed)) e h = (tt, tt)
+  by_lock holding fault (Some (Writer i)) e h = (tt, tt)
+  by_lock holding fault (Some (ReleasedWriter w)) e h = (tt, tt)
+  by_lock holding fault (Some Inner) e h = (tt, tt)
 
   pub into-asks : Fits (begin (ReadInto l room element least) s)
   unfolding begin
   into-asks =
-      either Fits (not (lock_calls.is_view (length room) element && nat_eq least 1)) (replying.unsupported s) _ (λ e. (tt, tt))
-      (λ e. either Fits (is_empty room) (lock_calls.by_byob_reader (λ i. replying.rejected) replying.rejected s (lock_at l s)) (lock_calls.by_byob_reader (lock_calls.read_into room element least) replying.rejected s (lock_at l s))
-      (λ f. by_lock (λ i. replying.rejected) (lock_at l s) refl (λ i closed g. (tt, tt)))
-      (λ f. by_lock (lock_calls.read_into room element least) (lock_at l s) refl (reads (least-room (length room) element least (not_not _ e) (some-room room f)))))
+      let fault : Fault = lock_calls.least_fault (length room) least in
+      either Fits (not (lock_calls.is_view (length room) element)) (replying.unsupported s) _ (λ e. (tt, tt))
+      (λ e. either Fits (not (lock_calls.has_least (length room) element least)) (lock_calls.refuse_least fault s (lock_at l s)) (lock_calls.by_byob_reader (lock_calls.read_into room element least) replying.rejected s (lock_at l s))
+      (λ f. by_lock (λ i. replying.rejected_with fault) fault (lock_at l s) refl (λ i closed g. (tt, tt)))
+      (λ f. by_lock (lock_calls.read_into room element least) TypeError (lock_at l s) refl (reads (least-room (length room) element least (not_not _ e) (not_not _ f)))))

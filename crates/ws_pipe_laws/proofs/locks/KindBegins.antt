@@ -228,7 +228,7 @@ call-kind i c s k =
     let still : (z : Slots) (es : List Effect) → z.locks ≡ s.locks → z.pipes ≡ s.pipes → z.tees ≡ s.tees → z.streams ≡ s.streams → Each IsNoTake es → OfKind i z es = quiet i s k in
     each_call (λ (b : Begun). OfKind i b.done.slots b.done.caused) c s (record {
       unchanged = λ reply. k;
-      rejected = still _ _ refl refl refl refl (tt, tt);
+      rejected = λ fault. still _ _ refl refl refl refl (tt, tt);
       make_readable = λ mark size start. made i s k (ReadableStream (readable.set_up Host mark size)) _ (λ m n. tt) (tt, tt);
       make_bytes = λ mark auto start. made i s k (ByteStream (byte.set_up mark auto)) _ (new-bytes mark auto) (tt, tt);
       make_writable = λ mark size start. made i s k (WritableStream (writable.set_up Host mark size)) _ (λ m n. tt) (tt, tt);

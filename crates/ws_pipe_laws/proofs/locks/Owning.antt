@@ -5,7 +5,8 @@ use Rattle.ws_laws.proofs.Tables.{no_stream}
 use Rattle.ws_steps.specs.declared.calls.Call.TheVariants.{Send, Open}
 use Rattle.ws_steps.specs.Slots.{most_streams}
 use Rattle.std.proofs.Common.{nat_lt}
-use Rattle.std.proofs.Common.{◌≡◌, ◌≢◌, ℕ, ◌+◌, ◌*◌, ◌≤◌, Bool, true, false, not, ◌&&◌, nat_eq, is_some, List, [], ◌∷◌, ◌++◌, length, Option, Some, None, slice_get, refl, sym, ap, ◌∙◌, arith}
+use Rattle.ws_value.specs.declared.fault.Fault.{Fault}
+use Rattle.std.proofs.Common.{◌≡◌, ◌≢◌, ℕ, ◌+◌, ◌*◌, ◌≤◌, Bool, true, false, not, is_some, List, [], ◌∷◌, ◌++◌, length, Option, Some, None, slice_get, refl, sym, ap, ◌∙◌, arith}
 use Rattle.ws_value.specs.declared.{ids.LockId.{LockId}, ids.PipeId.{PipeId}, ids.PromiseId.{PromiseId}, ids.SignalId.{SignalId}, ids.StreamId.{StreamId}, value.Plain.{Plain}}
 use Rattle.ws_steps.specs.declared.byte.ByteOperation.{ByteOperation}
 use Rattle.ws_steps.specs.declared.byte.ByteOperation.TheVariants.{InitializeByobReader, PullInto}
@@ -29,7 +30,6 @@ use Rattle.ws_steps.specs.PipeCalls.{for_signal_where, pipe_unlocked}
 use Rattle.ws_steps.specs.Calls.{begin}
 use Rattle.ws_steps.specs.Histories.{is_same}
 use Rattle.ws_steps.specs.Pipes as pipe
-use Rattle.ws_steps.specs.Queues.{is_empty}
 use Rattle.ws_steps.specs.Promises.{Table, next_id, fresh, is_pending_at}
 use Rattle.ws_steps.specs.Readable as readable
 use Rattle.ws_steps.specs.Run.{Entry, run}
@@ -246,9 +246,10 @@ module _ (source dest : StreamId) where
 
     reads_into : (l : LockId) (room : List ℕ) (element least : ℕ) → Spares (lock_calls.read_into_by room element least s (lock_at l s))
     reads_into l room element least =
-        either Spares (not (lock_calls.is_view (length room) element && nat_eq least 1)) (replying.unsupported s) _ (λ h. refl)
-        (λ h. either Spares (is_empty room) (by_byob_reader (λ i. replying.rejected) replying.rejected s (lock_at l s)) (by_byob_reader (lock_calls.read_into room element least) replying.rejected s (lock_at l s))
-        (λ g. with_byob (λ i. replying.rejected) replying.rejected l (lock_at l s) refl (λ i n. refl) refl)
+        let f : Fault = lock_calls.least_fault (length room) least in
+        either Spares (not (lock_calls.is_view (length room) element)) (replying.unsupported s) _ (λ h. refl)
+        (λ h. either Spares (not (lock_calls.has_least (length room) element least)) (lock_calls.refuse_least f s (lock_at l s)) (by_byob_reader (lock_calls.read_into room element least) replying.rejected s (lock_at l s))
+        (λ g. with_byob (λ i. replying.rejected_with f) (replying.rejected_with f) l (lock_at l s) refl (λ i n. refl) refl)
         (λ g. with_byob (lock_calls.read_into room element least) replying.rejected l (lock_at l s) refl (λ i n. alone_byob i (PullInto room element (least * element) (Promise (next_id s.promises))) n) refl))
 
     -- calls that have to do with no lock

@@ -138,7 +138,7 @@ end-silent WritableSide s = (tt, tt)
 other-asks : (c : Call) (s : Slots) → IsNoInto c → ((i : StreamId) → Balanced Reading i s []) → ReadsFirst (begin c s).done.caused × Asks (begin c s).done.slots (begin c s).done.caused
 other-asks c s other k = each_call (λ (b : Begun). ReadsFirst b.done.caused × Asks b.done.slots b.done.caused) c s (record {
   unchanged = λ reply. (tt, tt);
-  rejected = (tt, tt);
+  rejected = λ fault. (tt, tt);
   make_readable = λ mark size start. (tt, tt);
   make_writable = λ mark size start. (tt, tt);
   get_byob = λ i is e. (tt, tt);
@@ -243,7 +243,7 @@ port-queued i WritableSide s k = stream-made i (WritableStream (writable.set_up 
 call-queued : (c : Call) (s : Slots) → EachQueued s → EachQueued (begin c s).done.slots
 call-queued c s k = each_call (λ (b : Begun). EachQueued b.done.slots) c s (record {
   unchanged = λ reply. k;
-  rejected = k;
+  rejected = λ fault. k;
   make_readable = λ mark size start i. stream-made i (ReadableStream (readable.set_up Host mark size)) s refl (k i);
   make_writable = λ mark size start i. stream-made i (WritableStream (writable.set_up Host mark size)) s refl (k i);
   get_byob = λ i is e. k;
@@ -325,7 +325,7 @@ module _ (p : PipeId) where
   call-none : (c : Call) (s : Slots) → all (of_effect p) (begin c s).done.caused ≡ 0
   call-none c s = each_call (λ (b : Begun). all (of_effect p) b.done.caused ≡ 0) c s (record {
     unchanged = λ reply. refl;
-    rejected = refl;
+    rejected = λ fault. refl;
     make_readable = λ mark size start. refl;
     make_writable = λ mark size start. refl;
     get_byob = λ i is e. refl;

@@ -441,7 +441,7 @@ module _ (t : TeeId) where
     call-new : (c : Call) → IsNew (begin c s)
     call-new c = each_call IsNew c s (record {
       unchanged = λ reply x e. absent x e;
-      rejected = λ x e. absent x e;
+      rejected = λ fault x e. absent x e;
       make_readable = λ mark size start x e. absent x e;
       make_bytes = λ mark auto start x e. absent x e;
       make_writable = λ mark size start x e. absent x e;

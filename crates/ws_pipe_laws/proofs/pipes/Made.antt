@@ -15,11 +15,10 @@ use Rattle.ws_pipe_laws.specs.pipes.PipeMoves.{MakesPipes, MakesNone, MakesOne, 
 use Rattle.ws_steps.specs.Pipes as pipe
 use Rattle.ws_steps.specs.Promises.{next_id, fresh}
 use Rattle.ws_steps.specs.ReadableLooks as readable_looks
-use Rattle.ws_steps.specs.Slots.{Slots, has_writable, has_signal, writable_at}
+use Rattle.ws_steps.specs.Slots.{Slots, has_writable, has_signal, writable_at, byte_at, has_source, source_at, has_byte, most_streams, lock_at}
 use Rattle.ws_steps.specs.WritableLooks as writable_looks
+use Rattle.ws_laws.proofs.Into.{into-either}
 use Rattle.ws_laws.proofs.Tables.{either}
-use Rattle.ws_steps.specs.Slots.{byte_at, has_source, source_at}
-use Rattle.ws_steps.specs.Slots.{has_byte, most_streams}
 use Rattle.std.proofs.Common.{length, true, false, nat_lt}
 use Rattle.ws_steps.specs.Promises.{Table}
 use Rattle.ws_steps.specs.declared.port.Side.{Side}
@@ -127,7 +126,7 @@ each_pipe_begins_flowing (Pipe source dest prevent signal) s = pipe-makes source
 each_pipe_begins_flowing (MakeReadable mark size start) s = MakesNone (grind arith)
 each_pipe_begins_flowing (MakeBytes mark auto start) s = MakesNone (grind arith)
 each_pipe_begins_flowing (GetByob i) s = MakesNone (grind arith)
-each_pipe_begins_flowing (ReadInto l room element least) s = MakesNone (grind arith)
+each_pipe_begins_flowing (ReadInto l room element least) s = MakesNone (into-either (λ b. b.done.slots.pipes ≡ s.pipes) room element least s refl (λ f. refl) (λ i. refl) (lock_at l s))
 each_pipe_begins_flowing (Request i) s = MakesNone (asked-makes i s)
 each_pipe_begins_flowing (Respond q b) s = MakesNone (grind arith)
 each_pipe_begins_flowing (MakeWritable mark size start) s = MakesNone (grind arith)

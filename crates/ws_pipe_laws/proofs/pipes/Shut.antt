@@ -415,7 +415,7 @@ module _ (p : PipeId) where
   call-look : (c : Call) (s : Slots) → Each IsNoLook (begin c s).done.caused
   call-look c s = each_call (λ (b : Begun). Each IsNoLook b.done.caused) c s (record {
     unchanged = λ reply. tt;
-    rejected = (tt, tt);
+    rejected = λ fault. (tt, tt);
     make_readable = λ mark size start. (tt, tt);
     make_writable = λ mark size start. (tt, tt);
     get_byob = λ i is e. (tt, tt);

@@ -51,7 +51,7 @@ module _ (p : PipeId) where
   pub call-none : (c : Call) (s : Slots) → all (pays p) (begin c s).done.caused ≡ 0
   call-none c s = each_call (λ (b : Begun). all (pays p) b.done.caused ≡ 0) c s (record {
     unchanged = λ reply. refl;
-    rejected = refl;
+    rejected = λ fault. refl;
     make_readable = λ mark size start. refl;
     make_writable = λ mark size start. refl;
     get_byob = λ i is e. refl;

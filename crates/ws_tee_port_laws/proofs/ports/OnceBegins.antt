@@ -183,7 +183,7 @@ transform-begins a b d e p j Later k l m n = reading (k, (l, (m, (n, (tt, tt))))
 pub call-begins : (call : Call) (s : Slots) → Begins (begin call s).done.caused
 call-begins call s = each_call BegunSo call s (record {
   unchanged = λ reply. reading tt;
-  rejected = reading (tt, tt);
+  rejected = λ fault. reading (tt, tt);
   make_readable = λ mark size start. reading (tt, tt);
   make_bytes = λ mark auto start. reading (tt, tt);
   make_writable = λ mark size start. reading (tt, tt);

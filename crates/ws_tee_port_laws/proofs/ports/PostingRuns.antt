@@ -247,7 +247,7 @@ port-added WritableSide i s = inr (_, (refl, (refl, λ e. refl)))
 pub call-ports : (call : Call) (s : Slots) → PortsNow s (begin call s).done.slots
 call-ports call s = each_call (λ (b : Begun). PortsNow s b.done.slots) call s (record {
   unchanged = λ reply. inl refl;
-  rejected = inl refl;
+  rejected = λ fault. inl refl;
   make_readable = λ mark size start. inl refl;
   make_bytes = λ mark auto start. inl refl;
   get_byob = λ i is e. inl refl;

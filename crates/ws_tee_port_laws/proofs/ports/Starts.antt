@@ -402,7 +402,7 @@ module _ (c : PortId) (b : StreamId) where
   call-fits : (c : Call) (s : Slots) → Begins (begin c s)
   call-fits c s = each_call Begins c s (record {
     unchanged = λ reply m. tt;
-    rejected = λ m. (tt, tt);
+    rejected = λ fault m. (tt, tt);
     make_readable = λ mark size start m. (
       started (make_readable mark size start (record { 0 = length s.streams }) s).done.slots (record { 0 = length s.streams }) (ReadableStart (record { 0 = length s.streams })) start
           (other-stream (make_readable mark size start (record { 0 = length s.streams }) s).done.slots (record { 0 = length s.streams }) (ReadableOf Host)

@@ -38,10 +38,11 @@ use Rattle.ws_steps.specs.PortHistory.{is_same_port}
 use Rattle.ws_steps.specs.Promises.{next_id}
 use Rattle.ws_steps.specs.Queues.{is_empty}
 use Rattle.ws_steps.specs.Readable.{can_close_or_enqueue}
-use Rattle.ws_steps.specs.Slots.{Slots, found, has_readable, has_byte, has_writable, readable_at, byte_at, writable_at, on_port_at, on_tee_at, on_transform_at, clones_at, halves_at}
+use Rattle.ws_steps.specs.Slots.{Slots, lock_at, found, has_readable, has_byte, has_writable, readable_at, byte_at, writable_at, on_port_at, on_tee_at, on_transform_at, clones_at, halves_at}
 use Rattle.ws_steps.specs.Tee as tee
 use Rattle.ws_steps.specs.Transform as transform
 use Rattle.ws_steps.specs.Turns.{row}
+use Rattle.ws_laws.proofs.Into.{into-either}
 use Rattle.ws_laws.proofs.Ended.{port_shape, end_shape, Ended}
 use Rattle.ws_laws.proofs.Halves.{Halved}
 use Rattle.ws_laws.proofs.Lists.{Each, each-append, each-map}
@@ -236,7 +237,7 @@ call-gentle (GetWriter i) s o = grind arith
 call-gentle (Cancel i reason) s o = grind arith
 call-gentle (CancelBy l reason) s o = grind arith
 call-gentle (Read l) s o = grind arith
-call-gentle (ReadInto l room element least) s o = grind arith
+call-gentle (ReadInto l room element least) s o = into-either (λ b. Each IsGentle b.done.caused) room element least s _ (λ f. _) (λ i. _) (lock_at l s)
 call-gentle (Write l v) s o = grind arith
 call-gentle (CloseWritable i) s o = grind arith
 call-gentle (CloseBy l) s o = grind arith

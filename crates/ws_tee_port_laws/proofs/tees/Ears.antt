@@ -240,7 +240,7 @@ module _ (t : TeeId) where
     call-fits : (c : Call) (s : Slots) → Meant s (begin c s).done.slots → Each Fits (begin c s).done.caused
     call-fits c s = each_call (λ (z : Begun). Meant s z.done.slots → Each Fits z.done.caused) c s (record {
       unchanged = λ reply m. tt;
-      rejected = λ m. (tt, tt);
+      rejected = λ fault m. (tt, tt);
       make_readable = λ mark size start m. (refl, tt);
       make_bytes = λ mark auto start m. (refl, tt);
       make_writable = λ mark size start m. (refl, tt);

@@ -23,10 +23,11 @@ use Rattle.ws_steps.specs.Histories.{is_same}
 use Rattle.ws_steps.specs.Jobs.{job_effects}
 use Rattle.ws_steps.specs.Operations.{tee_operation, transform_operation, port_operation}
 use Rattle.ws_steps.specs.Readable.{can_close_or_enqueue}
-use Rattle.ws_steps.specs.Slots.{Slots, Stream, ReadableStream, ByteStream, WritableStream, found, halves_at, has_byte, has_readable, has_writable, is_byte_stream, on_transform_at, on_tee_at, as_readable, readable_at, byte_at, writable_at, on_port_at, clones_at}
+use Rattle.ws_steps.specs.Slots.{Slots, lock_at, Stream, ReadableStream, ByteStream, WritableStream, found, halves_at, has_byte, has_readable, has_writable, is_byte_stream, on_transform_at, on_tee_at, as_readable, readable_at, byte_at, writable_at, on_port_at, clones_at}
 use Rattle.ws_steps.specs.Tee as tee
 use Rattle.ws_steps.specs.Transform as transform
 use Rattle.ws_steps.specs.Turns.{row}
+use Rattle.ws_laws.proofs.Into.{into-either}
 use Rattle.ws_laws.proofs.Halves.{Halved}
 use Rattle.ws_laws.proofs.Lists.{Each, each-append, each-map}
 use Rattle.ws_laws.proofs.PipeDoes.{PipeCauses}
@@ -94,7 +95,7 @@ call-gentle (GetWriter i) s o = grind arith
 call-gentle (Cancel i reason) s o = grind arith
 call-gentle (CancelBy l reason) s o = grind arith
 call-gentle (Read l) s o = grind arith
-call-gentle (ReadInto l room element least) s o = grind arith
+call-gentle (ReadInto l room element least) s o = into-either (λ b. Each IsGentle b.done.caused) room element least s _ (λ f. _) (λ i. _) (lock_at l s)
 call-gentle (Write l v) s o = grind arith
 call-gentle (CloseWritable i) s o = grind arith
 call-gentle (CloseBy l) s o = grind arith

@@ -175,7 +175,7 @@ module _ (t : TeeId) where
   call-comes : (c : Call) (s : Slots) → slice_get (tee_shapes s) t.0 ≡ None → MadeNow s (begin c s)
   call-comes c s none = each_call (MadeNow s) c s (record {
     unchanged = λ reply x e. no x e;
-    rejected = λ x e. no x e;
+    rejected = λ fault x e. no x e;
     make_readable = λ mark size start x e. no x e;
     make_bytes = λ mark auto start x e. no x e;
     make_writable = λ mark size start x e. no x e;

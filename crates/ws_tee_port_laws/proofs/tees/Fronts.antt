@@ -232,7 +232,7 @@ module _ (t : TeeId) (half : Half) (b : StreamId) (s : Slots) (tied : Tied s) (x
   pub call-none : (c : Call) → Each (NoEnq b) (begin c s).done.caused
   call-none c = each_call (λ (z : Begun). Each (NoEnq b) z.done.caused) c s (record {
     unchanged = λ reply. tt;
-    rejected = (refl, tt);
+    rejected = λ fault. (refl, tt);
     make_readable = λ mark size start. (refl, tt);
     make_bytes = λ mark auto start. (refl, tt);
     make_writable = λ mark size start. (refl, tt);

@@ -370,7 +370,7 @@ module _ (t : TeeId) where
   call-kind : (c : Call) (s : Slots) → IsKind s → IsKind (begin c s).done.slots
   call-kind c s k = each_call (λ (b : Begun). IsKind b.done.slots) c s (record {
     unchanged = λ reply. k;
-    rejected = k;
+    rejected = λ fault. k;
     make_readable = λ mark size start x e. append-there s.streams _ x.source.0 (k x e);
     make_bytes = λ mark auto start x e. append-there s.streams _ x.source.0 (k x e);
     make_writable = λ mark size start x e. append-there s.streams _ x.source.0 (k x e);

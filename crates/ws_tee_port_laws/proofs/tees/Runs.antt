@@ -363,7 +363,7 @@ module _ (t : TeeId) (half : Half) (b : StreamId) (lost : tee.Slots → List Eff
     call-new : (c : Call) → IsNew s (begin c s)
     call-new c = each_call (IsNew s) c s (record {
       unchanged = λ reply x e. gone x e;
-      rejected = λ x e. gone x e;
+      rejected = λ fault x e. gone x e;
       make_readable = λ mark size start x e. gone x e;
       make_bytes = λ mark auto start x e. gone x e;
       make_writable = λ mark size start x e. gone x e;
