@@ -1,5 +1,7 @@
 -- A BYOB request is made only by the call that asks for it, where there is a descriptor.
 use Rattle.std.proofs.Common.{◌≡◌, Bool, true, false, List, arith}
+use Rattle.ws_steps.specs.Slots.{lock_at}
+use Rattle.ws_laws.proofs.Into.{into-either}
 use Rattle.ws_steps.specs.declared.effects.Effect.{Effect}
 use Rattle.ws_steps.specs.declared.byte.ByteOperation.TheVariants as own
 use Rattle.ws_steps.specs.declared.calls.Call.{Call}
@@ -33,7 +35,7 @@ begin-no_make (c.Tee i) s n = grind arith
 begin-no_make (c.Cancel i reason) s n = grind arith
 begin-no_make (c.CancelBy l reason) s n = grind arith
 begin-no_make (c.Read l) s n = grind arith
-begin-no_make (c.ReadInto l room element least) s n = grind arith
+begin-no_make (c.ReadInto l room element least) s n = into-either (λ b. AreNoMake b.done.caused) room element least s _ (λ f. _) (λ i. _) (lock_at l s)
 begin-no_make (c.Write l v) s n = grind arith
 begin-no_make (c.Close i) s n = grind arith
 begin-no_make (c.CloseBy l) s n = grind arith

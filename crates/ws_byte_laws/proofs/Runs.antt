@@ -1,5 +1,5 @@
 -- The order of a byte stream over every run.
-use Rattle.std.proofs.Common.{◌≡◌, ◌⊎◌, inl, inr, ℕ, Bool, true, false, List, [], ◌++◌, refl, sym, append_assoc, append-nil, ◌||◌}
+use Rattle.std.proofs.Common.{◌≡◌, ◌⊎◌, inl, inr, ℕ, Bool, true, false, List, [], ◌++◌, refl, sym, ◌∙◌, append_assoc, append-nil, ◌||◌}
 use Rattle.ws_steps.specs.Promises.{Table}
 use Rattle.ws_steps.specs.ByteHistory.{ByteFlow, no_bytes, bytes_then, entered_by, cancels, responds, shared_bytes, own_bytes, run_bytes}
 use Rattle.ws_steps.specs.Operations.{byte_readable_operation, byte_operation}
@@ -16,6 +16,7 @@ use Rattle.ws_steps.specs.Slots as realm
 use Rattle.ws_steps.specs.Slots.{has_byte, byte_at, empty}
 use Rattle.ws_steps.specs.Run.{Entry, run}
 use Rattle.ws_steps.specs.ByteLaws.{EachByteStreamIsLawful}
+use Rattle.ws_byte_laws.specs.Keeping.{EachClosedByteStreamKeeps}
 use Rattle.ws_laws.proofs.ReadableDoes.{is_taking}
 
 -- the flow with what is still to be given
@@ -117,3 +118,9 @@ pub each_byte_stream_is_lawful : EachByteStreamIsLawful
 each_byte_stream_is_lawful entries i is =
     let s : realm.Slots = run entries empty in
     lawful (run_bytes i entries empty) (byte_at i s) (between (run_bytes i entries empty) (byte_at i s) ((ordered-run i entries).there is))
+
+pub each_closed_byte_stream_keeps : EachClosedByteStreamKeeps
+each_closed_byte_stream_keeps entries i is c f g =
+    let s : realm.Slots = run entries empty in
+    let b : Balanced (run_bytes i entries empty) (byte_at i s) = between (run_bytes i entries empty) (byte_at i s) ((ordered-run i entries).there is) in
+    b.all ∙ rw (b.closing f g c, append-nil) refl

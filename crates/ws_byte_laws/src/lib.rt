@@ -2,6 +2,7 @@
 #![tactic(auto)]
 
 ghost use Rattle.ws_byte_laws.specs.Descriptors.{EachByteStreamIsSound};
+ghost use Rattle.ws_byte_laws.specs.Keeping.{EachClosedByteStreamKeeps};
 ghost use Rattle.ws_steps.specs.ByteLaws.{EachByteStreamIsLawful, EachByteStep, EachThrowingCloseErrs, EnteredBytesWereAccepted};
 
 /// No byte of a byte stream is doubled or overtaken, and none is lost while the stream is readable, or where it
@@ -19,6 +20,17 @@ ghost use Rattle.ws_steps.specs.ByteLaws.{EachByteStreamIsLawful, EachByteStep, 
 /// [[PullSteps]].
 pub fn each_byte_stream_is_lawful()
     ensures { EachByteStreamIsLawful }
+{}
+
+/// While a byte stream is closed, each byte that entered it was given or is kept, in this order, where no cancel closed
+/// it and nothing was responded to it since.
+///
+/// Its queue is empty then (`each_byte_stream_is_sound`), so what it keeps stands in its first room. A response hands
+/// that out (`each_closed_room_is_handed_out`).
+///
+/// Of: byte streams, ReadableByteStreamControllerClose, ReadableByteStreamControllerHandleQueueDrain.
+pub fn each_closed_byte_stream_keeps()
+    ensures { EachClosedByteStreamKeeps }
 {}
 
 /// In each step that finds a byte stream readable, what it kept and what entered it is what it gives and what it

@@ -1,6 +1,7 @@
 pub mod Filled
 pub mod Pairs
 pub mod Fair
+pub mod Handing
 pub mod Readings
 pub mod Operations
 pub mod DefaultHands

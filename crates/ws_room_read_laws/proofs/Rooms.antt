@@ -101,7 +101,7 @@ start-told s i WritableSide = tt
 call-told : (c : Call) (s : Slots) → Locked s [] → Each (IsTold (begin c s).done.slots) (begin c s).done.caused
 call-told c s k = each_call (λ (b : Begun). Each (IsTold b.done.slots) b.done.caused) c s (record {
   unchanged = λ reply. tt;
-  rejected = grind (arith, each-append);
+  rejected = λ fault. grind (arith, each-append);
   make_readable = λ mark size start. grind (arith, each-append);
   make_writable = λ mark size start. grind (arith, each-append);
   make_bytes = λ mark auto start. grind (arith, each-append);
@@ -307,7 +307,7 @@ module _ (w : ReadRequest → ℕ) (space unit least : ℕ) where
     call-fair : (c : Call) (s : Slots) → w (Promise (next_id s.promises)) ≡ 0 → AreFair w space unit least (begin c s).done.caused
     call-fair c s n = each_call (λ (b : Begun). AreFair w space unit least b.done.caused) c s (record {
       unchanged = λ reply. tt;
-      rejected = grind (arith, each-append);
+      rejected = λ fault. grind (arith, each-append);
       make_readable = λ mark size start. grind (arith, each-append);
       make_writable = λ mark size start. grind (arith, each-append);
       make_bytes = λ mark auto start. grind (arith, each-append);

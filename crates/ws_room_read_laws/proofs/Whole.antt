@@ -1,5 +1,7 @@
 -- What a read into a room is given or finished with, in every run (`each_room_is_whole`).
-use Rattle.std.proofs.Common.{◌≡◌, ◌≤◌, ℕ, ◌*◌, not, ◌&&◌, nat_eq, List, [], ◌∷◌, length, Option, Some, None, slice_get, refl, ap, arith}
+use Rattle.std.proofs.Common.{◌≡◌, ◌≤◌, ℕ, ◌*◌, not, List, [], ◌∷◌, length, Option, Some, None, slice_get, refl, ap, arith}
+use Rattle.ws_value.specs.declared.fault.Fault.{Fault}
+use Rattle.ws_value.specs.declared.fault.Fault.TheVariants.{TypeError}
 use Rattle.std.specs.Option.{option_map}
 use Rattle.ws_value.specs.declared.ids.{LockId.{LockId}, PipeId.{PipeId}, PromiseId.{PromiseId}, StreamId.{StreamId}}
 use Rattle.ws_value.specs.declared.{value.Outcome.{Outcome}, value.Outcome.TheVariants.{Pending, Given, Finished}, value.Value.TheVariants.{Bytes}}
@@ -14,13 +16,12 @@ use Rattle.ws_steps.specs.Begun.{Begun}
 use Rattle.ws_steps.specs.Calls.{begin, named}
 use Rattle.ws_steps.specs.Descriptors.{Descriptor}
 use Rattle.ws_steps.specs.Promises.{Entry as PromiseEntry, Table, outcome_at, next_id, fresh}
-use Rattle.ws_steps.specs.Queues.{is_empty}
 use Rattle.ws_steps.specs.Run.{Entry, Called, run, reply_to, after_call, after_event}
-use Rattle.ws_steps.specs.Slots.{Slots, Stream, ReadableStream, ByteStream, WritableStream, Done, has_source, lock_at, empty}
+use Rattle.ws_steps.specs.Slots.{Slots, Stream, ReadableStream, ByteStream, WritableStream, Done, has_byte, byte_at, has_source, lock_at, empty}
 use Rattle.ws_steps.specs.Turns.{performed}
 use Rattle.ws_steps.proofs.PromiseLaws.{entry_at-fresh_new}
 use Rattle.ws_laws.proofs.ByteHands.{sum_of}
-use Rattle.ws_laws.proofs.Tables.{either}
+use Rattle.ws_laws.proofs.Tables.{either, byte_there}
 use Rattle.ws_laws.proofs.Walker.{untold, performed-goes, run-stays}
 use Rattle.ws_laws.proofs.Watched.{next-there}
 use Rattle.ws_promise_laws.proofs.Acting.{waits-heard}
@@ -33,7 +34,9 @@ use Rattle.ws_promise_laws.proofs.Tokens.{of_request}
 use Rattle.ws_pipe_laws.proofs.locks.Runs.{run-locked}
 use Rattle.ws_room_read_laws.proofs.Filled.{Fills}
 use Rattle.ws_room_read_laws.proofs.Pairs.{behind, Pairs}
-use Rattle.ws_room_read_laws.proofs.Fair.{AreFair}
+use Rattle.ws_room_read_laws.specs.HandingOut.{EachClosedRoomIsHandedOut}
+use Rattle.ws_room_read_laws.proofs.Fair.{AreFair, Even}
+use Rattle.ws_room_read_laws.proofs.Handing.{even-handed}
 use Rattle.ws_room_read_laws.proofs.Outcomes.{IsFairOutcome, Answered, answered-fresh, answered-row, answered-begin, answered-next, answered-watch, answered-new, answered-heard}
 use Rattle.ws_room_read_laws.proofs.Rooms.{IsFairStream, AreFairStreams, Follows, Rooms, rooms-call, rooms-stay, call-streams}
 use Rattle.ws_value.specs.declared.ids.TeeId.{TeeId}
@@ -157,27 +160,28 @@ module _ (room : List ℕ) (element least : ℕ) (s : Slots) where
   unsupported-begins : Begins (replying.unsupported s)
   unsupported-begins = record { effects = tt; promise = λ p. λ e. absurd (cc) }
 
-  rejected-begins : Begins (replying.rejected s)
-  rejected-begins = record { effects = (tt, tt); promise = λ p e. (same_promise new p e, fresh-answered) }
+  rejected-begins : (fault : Fault) → Begins (replying.rejected_with fault s)
+  rejected-begins fault = record { effects = (tt, tt); promise = λ p e. (same_promise new p e, fresh-answered) }
 
   reads-begins : (i : StreamId) → Begins (lock_calls.read_into room element least i s)
   reads-begins i = record { effects = (λ o. (refl, refl, refl), tt); promise = λ p e. (same_promise new p e, fresh-answered) }
 
-  by_lock : (holding : StreamId → Slots → Begun) (lock : Option Lock) → ((i : StreamId) → Begins (holding i s)) → Begins (lock_calls.by_byob_reader holding replying.rejected s lock)
-  by_lock holding None h = unsupported-begins
-  by_lock holding (Some (Reader stream closed)) h = unsupported-begins
-  by_lock holding (Some (ByobReader (Some i) closed)) h = either Begins (has_source i s) (holding i s) (replying.unsupported s) (λ there. h i) (λ none. unsupported-begins)
-  by_lock holding (Some (ByobReader None closed)) h = rejected-begins
-  by_lock holding (Some (Writer i)) h = unsupported-begins
-  by_lock holding (Some (ReleasedWriter w)) h = unsupported-begins
-  by_lock holding (Some Inner) h = unsupported-begins
+  by_lock : (holding : StreamId → Slots → Begun) (fault : Fault) (lock : Option Lock) → ((i : StreamId) → Begins (holding i s)) → Begins (lock_calls.by_byob_reader holding (replying.rejected_with fault) s lock)
+  by_lock holding fault None h = unsupported-begins
+  by_lock holding fault (Some (Reader stream closed)) h = unsupported-begins
+  by_lock holding fault (Some (ByobReader (Some i) closed)) h = either Begins (has_source i s) (holding i s) (replying.unsupported s) (λ there. h i) (λ none. unsupported-begins)
+  by_lock holding fault (Some (ByobReader None closed)) h = rejected-begins fault
+  by_lock holding fault (Some (Writer i)) h = unsupported-begins
+  by_lock holding fault (Some (ReleasedWriter w)) h = unsupported-begins
+  by_lock holding fault (Some Inner) h = unsupported-begins
 
   into-begins : (l : LockId) → Begins (begin (ReadInto l room element least) s)
   unfolding begin
   into-begins l =
-      either Begins (not (lock_calls.is_view (length room) element && nat_eq least 1)) (replying.unsupported s) _ (λ e. unsupported-begins)
-      (λ e. either Begins (is_empty room) (lock_calls.by_byob_reader (λ i. replying.rejected) replying.rejected s (lock_at l s)) (lock_calls.by_byob_reader (lock_calls.read_into room element least) replying.rejected s (lock_at l s))
-      (λ f. by_lock (λ i. replying.rejected) (lock_at l s) (λ i. rejected-begins)) (λ f. by_lock (lock_calls.read_into room element least) (lock_at l s) reads-begins))
+      let fault : Fault = lock_calls.least_fault (length room) least in
+      either Begins (not (lock_calls.is_view (length room) element)) (replying.unsupported s) _ (λ e. unsupported-begins)
+      (λ e. either Begins (not (lock_calls.has_least (length room) element least)) (lock_calls.refuse_least fault s (lock_at l s)) (lock_calls.by_byob_reader (lock_calls.read_into room element least) replying.rejected s (lock_at l s))
+      (λ f. by_lock (λ i. replying.rejected_with fault) fault (lock_at l s) (λ i. rejected-begins fault)) (λ f. by_lock (lock_calls.read_into room element least) TypeError (lock_at l s) reads-begins))
 
 -- what the read has got by the end of a run
 has-got : (before after : List Entry) (l : LockId) (room : List ℕ) (element least : ℕ) (p : PromiseId) (o : Outcome) → let s : Slots = run before empty in let c : Call = ReadInto l room element least in
@@ -211,3 +215,10 @@ each_room_is_whole = record {
       let f : Fills (length room) element (least * element) b = has-got before after l room element least p (Given (Bytes b)) reply is in record { whole = f.whole; enough = f.enough; fits = f.fits };
   finished = λ before after l room element least p b reply is. has-got before after l room element least p (Finished (Bytes b)) reply is;
 }
+
+pub each_closed_room_is_handed_out : EachClosedRoomIsHandedOut
+each_closed_room_is_handed_out entries i there c r =
+    let s : Slots = run entries empty in
+    let k = before-rooms entries in
+    let even : Even no_weight 0 0 0 (byte_at i s) = rw (byte_there (slice_get s.streams i.0) there) at (k.streams i) in
+    even-handed no_weight 0 0 0 i (byte_at i s) even c r
