@@ -1,0 +1,3 @@
+pub mod ByteReads
+pub mod Answering
+pub mod LeastReads
