@@ -1,5 +1,5 @@
 //! The calls on BYOB readers and requests, which byte streams alone have.
-ghost use Rattle.std.specs.Prelude.{◌≡◌, true, length};
+ghost use Rattle.std.specs.Prelude.{◌≡◌, ◌*◌, true, length};
 ghost use Rattle.ws_steps.specs.LockCalls as lock_calls;
 ghost use Rattle.ws_steps.specs.ControllerCalls as controller_calls;
 ghost use Rattle.ws_steps.specs.Calls as calls;
@@ -9,10 +9,10 @@ ghost use Rattle.ws_steps.specs.declared.calls.Call.TheVariants as call;
 ghost use Rattle.ws_begin.specs.Begin.{Answers, CanBegin, CanMake};
 ghost use Rattle.ws_tables.specs.View.{slots_of};
 
-use crate::replies::{TYPE_ERROR, UNSUPPORTED, rejected, thrown_by};
+use crate::replies::{TYPE_ERROR, UNSUPPORTED, rejected, rejected_with, thrown_by};
 use ws_steps::{ByteOperation, Effect, Lock, ReadRequest, Reply};
 use ws_tables::Tables;
-use ws_value::{Chunk, LockId, RequestId, Room, StreamId};
+use ws_value::{Chunk, Fault, LockId, RequestId, Room, StreamId};
 
 /// A new BYOB reader takes the stream.
 #[tactic(auto, unfolding(ws_steps::specs::Calls::begin))]
@@ -43,24 +43,57 @@ fn is_view(room: usize, element: u8) -> bool
     (element == 1 || element == 2 || element == 4 || element == 8) && room % element as usize == 0
 }
 
-/// ReadableStreamBYOBReaderRead of a reader that has the stream.
-fn read_into_stream(tables: &mut Tables, i: StreamId, room: Room, element: u8) -> Reply
-    requires ready { CanBegin tables.old }
-    ensures { Answers (lock_calls.read_into room element 1 i (slots_of tables.old)) result tables.old tables.new }
+/// Whether so many elements may be wanted at least of such a view: one, and no more than there are.
+fn has_least(room: usize, element: u8, least: u64) -> bool
+    requires view { lock_calls.is_view room element ≡ true }
+    ensures { result ≡ lock_calls.has_least room element least }
 {
+    0 < least && least <= (room / element as usize) as u64
+}
+
+/// With what a read is rejected of which so many elements may not be wanted.
+fn least_fault(room: usize, least: u64) -> Fault
+    ensures { result ≡ lock_calls.least_fault room least }
+{
+    if room == 0 || least == 0 {
+        Fault::TypeError
+    } else {
+        Fault::RangeError
+    }
+}
+
+/// How many bytes these elements have.
+#[tactic(auto, using(crate::proofs::Elements::least_fits))]
+fn bytes_of(room: usize, element: u8, least: u64) -> u64
+    requires view { lock_calls.is_view room element ≡ true }
+    requires least { lock_calls.has_least room element least ≡ true }
+    ensures { result ≡ least * element }
+{
+    least * u64::from(element)
+}
+
+/// ReadableStreamBYOBReaderRead of a reader that has the stream.
+fn read_into_stream(tables: &mut Tables, i: StreamId, room: Room, element: u8, least: u64) -> Reply
+    requires ready { CanBegin tables.old }
+    requires view { lock_calls.is_view (length room) element ≡ true }
+    requires least { lock_calls.has_least (length room) element least ≡ true }
+    ensures { Answers (lock_calls.read_into room element least i (slots_of tables.old)) result tables.old tables.new }
+{
+    let minimum = bytes_of(room.len(), element, least);
     let promise = tables.promises.fresh();
     let operation = ByteOperation::PullInto {
         room,
         element,
-        minimum: u64::from(element),
+        minimum,
         request: ReadRequest::Promise(promise),
     };
     tables.caused.push(Effect::Byte(i, operation));
     Reply::Promise(promise)
 }
 
-/// `reader.read(view)` of a BYOB reader; an empty view is refused.
-#[tactic(auto, using(crate::proofs::Looking::empty_length), unfolding(ws_steps::specs::Calls::begin))]
+/// `reader.read(view, { min })` of a BYOB reader. What is wrong with the view or the least number comes before a
+/// release.
+#[tactic(auto, unfolding(ws_steps::specs::Calls::begin))]
 pub(crate) fn read_into(
     tables: &mut Tables,
     l: LockId,
@@ -72,7 +105,7 @@ pub(crate) fn read_into(
     ensures { Answers (calls.begin (call.ReadInto l room element least) (slots_of tables.old))
         result tables.old tables.new }
 {
-    if !is_view(room.len(), element) || least != 1 {
+    if !is_view(room.len(), element) {
         return UNSUPPORTED;
     }
     match tables.lock(l) {
@@ -85,12 +118,17 @@ pub(crate) fn read_into(
             if !tables.has_source(i) {
                 return UNSUPPORTED;
             }
-            if room.is_empty() {
-                return rejected(tables);
+            if !has_least(room.len(), element, least) {
+                return rejected_with(tables, least_fault(room.len(), least));
             }
-            read_into_stream(tables, i, room, element)
+            read_into_stream(tables, i, room, element, least)
         }
-        Some(Lock::ByobReader { stream: None, .. }) => rejected(tables),
+        Some(Lock::ByobReader { stream: None, .. }) => {
+            if !has_least(room.len(), element, least) {
+                return rejected_with(tables, least_fault(room.len(), least));
+            }
+            rejected(tables)
+        }
         Some(Lock::Reader { .. } | Lock::Writer(_) | Lock::ReleasedWriter(_) | Lock::Inner)
         | None => UNSUPPORTED,
     }

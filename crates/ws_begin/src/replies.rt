@@ -26,13 +26,21 @@ pub(crate) fn thrown_by(fault: Fault) -> Reply
     }
 }
 
+/// Answers a promise that is rejected with this fault.
+pub(crate) fn rejected_with(tables: &mut Tables, fault: Fault) -> Reply
+    requires ready { CanBegin tables.old }
+    ensures { Answers (replying.rejected_with fault (slots_of tables.old)) result tables.old tables.new }
+{
+    let promise = tables.promises.fresh();
+    let reason = Plain::Fault(fault);
+    tables.caused.push(Effect::Settle(promise, Err(reason)));
+    Reply::Promise(promise)
+}
+
 /// Answers a promise that is rejected with a TypeError.
 pub(crate) fn rejected(tables: &mut Tables) -> Reply
     requires ready { CanBegin tables.old }
     ensures { Answers (replying.rejected (slots_of tables.old)) result tables.old tables.new }
 {
-    let promise = tables.promises.fresh();
-    let reason = Plain::Fault(Fault::TypeError);
-    tables.caused.push(Effect::Settle(promise, Err(reason)));
-    Reply::Promise(promise)
+    rejected_with(tables, Fault::TypeError)
 }

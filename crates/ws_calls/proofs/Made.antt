@@ -114,7 +114,7 @@ port-sourced i s side own = rw (port-tees i s side) (own, (port-more i s side, o
 pub begin-few : (c : Call) (s : Slots) → HasFew s → HasFew (begin c s).done.slots
 begin-few c s few = each_call (λ (b : Begun). HasFew b.done.slots) c s (record {
   unchanged = λ reply. few;
-  rejected = few;
+  rejected = λ fault. few;
   make_readable = λ mark size start. let x = few.0 in let y = few.1 in let a = length-append s.streams (ReadableStream (readable.set_up Host mark size) ∷ []) in (omega (arith, a, x), omega (arith, a, y));
   make_bytes = λ mark auto start. let x = few.0 in let y = few.1 in let a = length-append s.streams (ByteStream (byte.set_up mark auto) ∷ []) in (omega (arith, a, x), omega (arith, a, y));
   get_byob = λ i is e. few;
@@ -184,7 +184,7 @@ begin-sourced c s own =
     let same : HaveOwnSources (length s.streams) s.tees × ((length s.streams ≤ length s.streams) × (length s.tees ≤ length s.tees + 1)) = (own, (omega arith, omega arith)) in
     each_call (λ (b : Begun). Sourced s b.done) c s (record {
       unchanged = λ reply. same;
-      rejected = same;
+      rejected = λ fault. same;
       make_readable = λ mark size start. let a = length-append s.streams (ReadableStream (readable.set_up Host mark size) ∷ []) in (own, (omega (arith, a), omega arith));
       make_bytes = λ mark auto start. let a = length-append s.streams (ByteStream (byte.set_up mark auto) ∷ []) in (own, (omega (arith, a), omega arith));
       get_byob = λ i is e. same;
