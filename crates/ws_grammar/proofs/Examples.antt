@@ -85,6 +85,16 @@ spelled_readinto_no_room = refl
 spelled_readinto_large_element : AloneIs (codes "readinto l0 1 255") (ReadInto (record { 0 = 0 }) (0 ∷ []) 255 1)
 spelled_readinto_large_element = refl
 
+-- the least number may be any: the realm looks at it
+spelled_readinto_least : AloneIs (codes "readinto l0 2 1 2") (ReadInto (record { 0 = 0 }) (0 ∷ 0 ∷ []) 1 2)
+spelled_readinto_least = refl
+
+spelled_readinto_most : AloneIs (codes "readinto l0 0 1 18446744073709551615") (ReadInto (record { 0 = 0 }) [] 1 18446744073709551615)
+spelled_readinto_most = refl
+
+spelled_readinto_none : AloneIs (codes "readinto l0 1 1 0") (ReadInto (record { 0 = 0 }) (0 ∷ []) 1 0)
+spelled_readinto_none = refl
+
 spelled_longest_room : readinto_call (codes "l0") (codes "65536") (codes "1") ≡ Some (ReadInto (record { 0 = 0 }) (replicate 65536 0) 1 1)
 spelled_longest_room = refl
 
@@ -333,8 +343,14 @@ refused_readinto_on_a_stream = refl
 refused_readinto_without_an_element : lines (codes "readinto l0 8") ≡ Err 1
 refused_readinto_without_an_element = refl
 
-refused_readinto_with_a_least_number : lines (codes "readinto l0 8 4 1") ≡ Err 1
-refused_readinto_with_a_least_number = refl
+refused_readinto_with_a_leading_zero : lines (codes "readinto l0 8 4 01") ≡ Err 1
+refused_readinto_with_a_leading_zero = refl
+
+refused_readinto_with_a_large_least : lines (codes "readinto l0 8 4 18446744073709551616") ≡ Err 1
+refused_readinto_with_a_large_least = refl
+
+refused_readinto_with_more : lines (codes "readinto l0 8 4 1 1") ≡ Err 1
+refused_readinto_with_more = refl
 
 refused_request_by_a_lock : lines (codes "request l0") ≡ Err 1
 refused_request_by_a_lock = refl

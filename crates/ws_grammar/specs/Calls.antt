@@ -119,14 +119,22 @@ abort_call object reason =
 abbrev pub write_call : List ℕ → List ℕ → Option Call
 write_call lock value = both Write (lock_named lock) (value_of value)
 
--- a read of one element at least into a room of this length, all of it zeros
-abbrev pub read_into : LockId → ℕ → ℕ → Call
-read_into lock len element = ReadInto lock (replicate len 0) element 1
+-- a read into a room of this length, all of it zeros
+abbrev pub read_into : LockId → ℕ → ℕ → ℕ → Call
+read_into lock len element least = ReadInto lock (replicate len 0) element least
 
--- `readinto L LEN ELEMENT`
+-- such a read, of this least number of elements, where that is a number
+abbrev pub read_into_call : List ℕ → List ℕ → List ℕ → Option ℕ → Option Call
+read_into_call lock len element least =
+    all_four read_into (lock_named lock) (number_below (longest_room + 1) len) (number_below (2 ^ 8) element) least
+
+-- `readinto L LEN ELEMENT`: of one element at least
 abbrev pub readinto_call : List ℕ → List ℕ → List ℕ → Option Call
-readinto_call lock len element =
-    all_three read_into (lock_named lock) (number_below (longest_room + 1) len) (number_below (2 ^ 8) element)
+readinto_call lock len element = read_into_call lock len element (Some 1)
+
+-- `readinto L LEN ELEMENT LEAST`
+abbrev pub readinto_least_call : List ℕ → List ℕ → List ℕ → List ℕ → Option Call
+readinto_least_call lock len element least = read_into_call lock len element (number_below (2 ^ 64) least)
 
 -- `respond Q X`
 abbrev pub respond_call : List ℕ → List ℕ → Option Call
@@ -230,10 +238,11 @@ call_on_three word first second third =
     else if bytes_eq word (codes "pipe") then pipe_call first second (third ∷ [])
     else None
 
--- a word and four more: `transform`, `pipe` with two options
+-- a word and four more: `transform`, `readinto` with a least number, `pipe` with two options
 abbrev pub call_on_four : List ℕ → List ℕ → List ℕ → List ℕ → List ℕ → Option Call
 call_on_four word first second third fourth =
     if bytes_eq word (codes "transform") then transform_call first second third fourth
+    else if bytes_eq word (codes "readinto") then readinto_least_call first second third fourth
     else if bytes_eq word (codes "pipe") then pipe_call first second (third ∷ fourth ∷ [])
     else None
 

@@ -4,5 +4,6 @@ pub mod Values
 pub mod Options
 pub mod Messages
 pub mod Calls
+pub mod Spelled
 pub mod Lines
 pub mod Refusals

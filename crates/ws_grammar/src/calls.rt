@@ -1,9 +1,10 @@
 //! The call that a line's words spell.
 ghost use Rattle.std.specs.Prelude.{◌≡◌, ◌+◌, IfOk, map};
 ghost use Rattle.ws_grammar.specs.Numbers.{number_below};
-ghost use Rattle.ws_grammar.specs.Calls.{size_named, start_named, kind_named, side_named, readable_call, longest_auto, longest_room, bytes_call, writable_call, transform_call, desired_call, cancel_call, close_call, abort_call, write_call, readinto_call, respond_call, enqueue_call, fail_call, settle_ok_call, settle_fail_call, pipe_call, trigger_call, deliver_call, deliver_with_call};
+ghost use Rattle.ws_grammar.specs.Calls.{size_named, start_named, kind_named, side_named, readable_call, longest_auto, longest_room, bytes_call, writable_call, transform_call, desired_call, cancel_call, close_call, abort_call, write_call, read_into_call, respond_call, enqueue_call, fail_call, settle_ok_call, settle_fail_call, pipe_call, trigger_call, deliver_call, deliver_with_call};
 ghost use Rattle.ws_grammar.specs.Calls.{call_alone, call_on_one, call_on_two, call_on_three, call_on_four, call_on_more, call_of};
 
+use crate::Spelled;
 use crate::messages::{message_alone, message_with};
 use crate::numbers::{number_u8, number_u64};
 use crate::options::{PipeOptions, options_of};
@@ -13,7 +14,7 @@ use crate::values::{
 };
 use std::alloc::Global;
 use ws_steps::{Answer, Call, Kind, Side, SizeBy, StartBy};
-use ws_value::{NoMemory, Room};
+use ws_value::NoMemory;
 
 /// The longest room that a byte stream's controller makes of itself.
 const LONGEST_AUTO: u64 = 4_096;
@@ -191,30 +192,16 @@ fn room_len_of(word: &[u8]) -> Option<usize>
     }
 }
 
-/// A read of one element at least into a room.
-fn readinto_call(
-    alloc: Global,
-    lock: &[u8],
-    len: &[u8],
-    element: &[u8],
-) -> Result<Option<Call>, NoMemory>
-    ensures { IfOk result (λ call. call ≡ readinto_call lock.now len.now element.now) }
+/// A read into a room, where this is a least number of elements.
+fn read_into_call(lock: &[u8], len: &[u8], element: &[u8], least: Option<u64>) -> Option<Spelled>
+    ensures { result ≡ read_into_call lock.now len.now element.now least }
 {
-    let Some(lock) = lock_named(lock) else {
-        return Ok(None);
-    };
-    let Some(len) = room_len_of(len) else {
-        return Ok(None);
-    };
-    let Some(element) = number_u8(element) else {
-        return Ok(None);
-    };
-    Ok(Some(Call::ReadInto {
-        lock,
-        room: Room::of(alloc, len)?,
-        element,
-        least: 1,
-    }))
+    Some(Spelled::read_into(
+        lock_named(lock)?,
+        room_len_of(len)?,
+        number_u8(element)?,
+        least?,
+    ))
 }
 
 /// The bytes that were written into a request's view.
@@ -409,23 +396,23 @@ fn call_on_three(
     first: &[u8],
     second: &[u8],
     third: &[u8],
-) -> Result<Option<Call>, NoMemory>
+) -> Result<Option<Spelled>, NoMemory>
     ensures { IfOk result (λ call. call ≡ call_on_three word.now first.now second.now third.now) }
 {
     if word == b"readable".as_slice() {
-        Ok(readable_call(first, second, third))
+        Ok(readable_call(first, second, third).map(Spelled::whole))
     } else if word == b"bytes".as_slice() {
-        Ok(bytes_call(first, second, third))
+        Ok(bytes_call(first, second, third).map(Spelled::whole))
     } else if word == b"writable".as_slice() {
-        Ok(writable_call(first, second, third))
+        Ok(writable_call(first, second, third).map(Spelled::whole))
     } else if word == b"readinto".as_slice() {
-        readinto_call(alloc, first, second, third)
+        Ok(read_into_call(first, second, third, Some(1)))
     } else if word == b"deliver".as_slice() {
-        deliver_with_call(alloc, first, second, third)
+        Ok(deliver_with_call(alloc, first, second, third)?.map(Spelled::whole))
     } else if word == b"settle".as_slice() {
-        Ok(settle_fail_call(first, second, third))
+        Ok(settle_fail_call(first, second, third).map(Spelled::whole))
     } else if word == b"pipe".as_slice() {
-        Ok(pipe_call(first, second, &[third]))
+        Ok(pipe_call(first, second, &[third]).map(Spelled::whole))
     } else {
         Ok(None)
     }
@@ -438,38 +425,43 @@ fn call_on_four(
     second: &[u8],
     third: &[u8],
     fourth: &[u8],
-) -> Option<Call>
+) -> Option<Spelled>
     ensures { result ≡ call_on_four word.now first.now second.now third.now fourth.now }
 {
     if word == b"transform".as_slice() {
-        transform_call(first, second, third, fourth)
+        transform_call(first, second, third, fourth).map(Spelled::whole)
+    } else if word == b"readinto".as_slice() {
+        read_into_call(first, second, third, number_u64(fourth))
     } else if word == b"pipe".as_slice() {
-        pipe_call(first, second, &[third, fourth])
+        pipe_call(first, second, &[third, fourth]).map(Spelled::whole)
     } else {
         None
     }
 }
 
 /// The call of a word and more than four.
-fn call_on_more(word: &[u8], first: &[u8], second: &[u8], more: &[&[u8]]) -> Option<Call>
+fn call_on_more(word: &[u8], first: &[u8], second: &[u8], more: &[&[u8]]) -> Option<Spelled>
     ensures { result ≡ call_on_more word.now first.now second.now (map (λ word. word.now) more.now) }
 {
     if word == b"pipe".as_slice() {
-        pipe_call(first, second, more)
+        pipe_call(first, second, more).map(Spelled::whole)
     } else {
         None
     }
 }
 
 /// The call that a line's words spell.
-pub fn call_of(alloc: Global, words: &[&[u8]]) -> Result<Option<Call>, NoMemory>
+pub fn call_of(alloc: Global, words: &[&[u8]]) -> Result<Option<Spelled>, NoMemory>
     ensures { IfOk result (λ call. call ≡ call_of (map (λ word. word.now) words.now)) }
 {
     match words {
         [] => Ok(None),
-        [word] => Ok(call_alone(word)),
-        [word, first] => Ok(call_on_one(word, first)),
-        [word, first, second] => call_on_two(alloc, word, first, second),
+        [word] => Ok(call_alone(word).map(Spelled::whole)),
+        [word, first] => Ok(call_on_one(word, first).map(Spelled::whole)),
+        [word, first, second] => {
+            let call = call_on_two(alloc, word, first, second)?;
+            Ok(call.map(Spelled::whole))
+        }
         [word, first, second, third] => call_on_three(alloc, word, first, second, third),
         [word, first, second, third, fourth] => {
             Ok(call_on_four(word, first, second, third, fourth))

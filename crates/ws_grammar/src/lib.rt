@@ -9,6 +9,7 @@ mod numbers;
 mod options;
 mod refused;
 mod script;
+mod spelled;
 mod values;
 mod words;
 
@@ -16,3 +17,4 @@ pub use line::Line;
 pub use numbers::{number_u16, number_u32};
 pub use refused::ScriptRefused;
 pub use script::read_script;
+pub use spelled::Spelled;

@@ -2,10 +2,10 @@
 ghost use Rattle.std.specs.Prelude.{◌≡◌, map, IfOk};
 ghost use Rattle.ws_grammar.specs.Lines.{jobs_of, line_of_words};
 
+use crate::Spelled;
 use crate::calls::call_of;
 use crate::numbers::number_u32;
 use std::alloc::Global;
-use ws_steps::Call;
 use ws_value::NoMemory;
 
 /// How many jobs run at most after a call.
@@ -18,7 +18,7 @@ pub struct Line {
     pub number: u32,
     /// How many jobs run at most after the call.
     pub jobs: u32,
-    pub call: Call,
+    pub call: Spelled,
 }
 
 /// How many jobs a prefix allows.

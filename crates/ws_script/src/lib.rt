@@ -8,4 +8,4 @@ mod run;
 
 pub use print::print_step;
 pub use run::run_script;
-pub use ws_grammar::{Line, ScriptRefused, read_script};
+pub use ws_grammar::{Line, ScriptRefused, Spelled, read_script};

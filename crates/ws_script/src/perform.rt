@@ -36,6 +36,7 @@ fn perform_line(alloc: Global, realm: &mut Realm, line: Line) -> Result<Blob, No
     ensures slots { OnOk result (realm.new.slots ≡ heard (after_line line realm.old.slots)) }
 {
     let Line { number, jobs, call } = line;
+    let call = call.into_call(alloc)?;
     let reply = match realm.call(call) {
         Ok(reply) => reply,
         Err(refused) => return Err(want_of_memory(refused.why)),
