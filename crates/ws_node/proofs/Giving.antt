@@ -1,5 +1,5 @@
 -- What the ends of a node are given to post in a turn: what the host hears of that their ports posted.
-use Rattle.std.proofs.Common.{◌≡◌, ℕ, zero, suc, Bool, true, false, ◌||◌, is_some, if◌then◌else◌, List, [], ◌∷◌, ◌++◌, Option, Some, None, refl, sym, ap, ◌∙◌, subst, append-nil, append_assoc}
+use Rattle.std.proofs.Common.{◌≡◌, ◌≤◌, ℕ, zero, suc, Bool, true, false, ◌||◌, is_some, if◌then◌else◌, List, [], ◌∷◌, ◌++◌, Option, Some, None, refl, sym, ap, ◌∙◌, subst, append-nil, append_assoc, arith}
 use Rattle.ws_value.specs.declared.ids.PortId.{PortId}
 use Rattle.ws_value.specs.declared.value.Message.{Message}
 use Rattle.ws_value.specs.declared.value.Message.TheVariants.{Pull, Chunk, Close, Error}
@@ -39,24 +39,27 @@ use Rattle.ws_node.proofs.Since.{first-taken, none-taken}
 use Rattle.ws_node.proofs.Telling.{last-given, wanting}
 use Rattle.ws_node.proofs.Waiting.{the-port}
 
--- ends that were given nothing more
+-- ends that were given nothing more, and look no less often
 
 abbrev pub SameGiven : Option AtEdge → Option AtEdge → Type 0
 SameGiven None q = q ≡ None
 SameGiven (Some e) None = ⊥
-SameGiven (Some e) (Some f) = given f ≡ given e
+SameGiven (Some e) (Some f) = (given f ≡ given e) × (e.to.looks ≤ f.to.looks)
+
+looks-same : (x : AtEdge) → x.to.looks ≤ x.to.looks
+looks-same x = omega arith
 
 given-same : (o q : Option AtEdge) → q ≡ o → SameGiven o q
 given-same None q e = e
-given-same (Some x) q e = subst (SameGiven (Some x)) (sym e) refl
+given-same (Some x) q e = subst (SameGiven (Some x)) (sym e) (refl, looks-same x)
 
-given-of : (o q : Option AtEdge) (e f : AtEdge) → o ≡ Some e → q ≡ Some f → given f ≡ given e → SameGiven o q
+given-of : (o q : Option AtEdge) (e f : AtEdge) → o ≡ Some e → q ≡ Some f → SameGiven (Some e) (Some f) → SameGiven o q
 given-of o q e f is now same = subst (λ z. SameGiven z q) (sym is) (subst (λ z. SameGiven (Some e) z) (sym now) same)
 
 grows-none : (heard : List Message) (stopped : Option Why) (o q : Option AtEdge) → heard ≡ [] → SameGiven o q → EndGrowsBy heard stopped o q
 grows-none heard stopped None q e g = g
 grows-none heard stopped (Some x) None e g = absurd g
-grows-none heard stopped (Some x) (Some y) e g = Whole (g ∙ sym (ap (λ ms. given x ++ ms) e ∙ append-nil (given x)))
+grows-none heard stopped (Some x) (Some y) e g = (Whole (g.0 ∙ sym (ap (λ ms. given x ++ ms) e ∙ append-nil (given x))), g.1)
 
 -- so where the host hears of nothing
 gives-none : (a b : Node) (entries : List Entry) → taken_events entries a.core.realm.slots ≡ [] → b.core.realm.slots ≡ run entries a.core.realm.slots
@@ -87,15 +90,18 @@ works-give a b w =
 posts-same : (posted : Bool) (o q : Option AtEdge) → posts_at posted o q → SameGiven o q
 posts-same posted None q h = h.0
 posts-same posted (Some e) None h = absurd h
-posts-same posted (Some e) (Some f) h = h.given_is
+posts-same posted (Some e) (Some f) h = (h.given_is, h.looked)
 
 pub posts-give : (posted : Bool) (a b : Node) → PostsBoth posted a b → GivesHeard a b
 posts-give posted a b h =
     gives-none a b [] refl (ap (λ (n : Node). n.core.realm.slots) h.is)
     (posts-same h.above a.entrance.above b.entrance.above h.posts_above) (posts-same h.below a.exit.below b.exit.below h.posts_below)
 
-given-is : (e f : AtEdge) → f.to ≡ e.to → f.waiting ≡ e.waiting → given f ≡ given e
-given-is e f to waiting = ap (λ (x : Posted). x.sent ++ f.waiting) to ∙ ap (λ ms. e.to.sent ++ ms) waiting
+given-is : (e f : AtEdge) → f.to ≡ e.to → f.waiting ≡ e.waiting → SameGiven (Some e) (Some f)
+given-is e f to waiting = (
+  ap (λ (x : Posted). x.sent ++ f.waiting) to ∙ ap (λ ms. e.to.sent ++ ms) waiting,
+  subst (λ (x : Posted). e.to.looks ≤ x.looks) (sym to) (looks-same e),
+)
 
 pub takes-above-give : (took : Bool) (a b : Node) → TakesAbove took a b → GivesHeard a b
 takes-above-give took a b (NotAbove none held same) = acts-give a b (acts-is a b a same refl refl refl)
@@ -129,11 +135,14 @@ given-then x y z h k s t goes (Whole is) second = subst (λ ms. IsGiven ms (give
 given-then x y z h k s t goes (FirstPart stopped rest is) second = absurd (cc)
 given-then x y z h k s t goes (WithLast stopped first rest is none all) second = absurd (cc)
 
+looks-then : (x y z : ℕ) → x ≤ y → y ≤ z → x ≤ z
+looks-then x y z f g = omega (arith, f, g)
+
 grows-then : (h k : List Message) (s t : Option Why) (o q r : Option AtEdge) → s ≡ None → EndGrowsBy h s o q → EndGrowsBy k t q r → EndGrowsBy (h ++ k) t o r
 grows-then h k s t None q r goes f g = subst (λ z. EndGrowsBy k t z r) f g
 grows-then h k s t (Some x) None r goes f g = absurd f
 grows-then h k s t (Some x) (Some y) None goes f g = absurd g
-grows-then h k s t (Some x) (Some y) (Some z) goes f g = given-then x y z h k s t goes f g
+grows-then h k s t (Some x) (Some y) (Some z) goes f g = (given-then x y z h k s t goes f.0 g.0, looks-then x.to.looks y.to.looks z.to.looks f.1 g.1)
 
 heard-both : (port : PortId) (xs ys : List Entry) (s t : Slots) → t ≡ run xs s → posted_in port (taken_events (xs ++ ys) s) ≡ posted_in port (taken_events xs s) ++ posted_in port (taken_events ys t)
 heard-both port xs ys s t e =
@@ -216,11 +225,11 @@ waits-keep get m put a n b o same full (NoEdge none is) = ap get is
 grows-one : (m : Message) (stopped : Option Why) (o q : Option AtEdge) (e : AtEdge) → o ≡ Some e → q ≡ Some (record e { waiting = e.waiting ++ m ∷ [] }) → EndGrowsBy (m ∷ []) stopped o q
 grows-one m stopped o q e is now =
     subst (λ z. EndGrowsBy (m ∷ []) stopped z q) (sym is)
-    (subst (λ z. EndGrowsBy (m ∷ []) stopped (Some e) z) (sym now) (Whole (sym (append_assoc e.to.sent e.waiting (m ∷ [])))))
+    (subst (λ z. EndGrowsBy (m ∷ []) stopped (Some e) z) (sym now) (Whole (sym (append_assoc e.to.sent e.waiting (m ∷ []))), looks-same e))
 
 grows-full : (m : Message) (stopped : Option Why) (o q : Option AtEdge) → stopped ≡ Some NoMemory → q ≡ o → EndGrowsBy (m ∷ []) stopped o q
 grows-full m stopped None q full same = same
-grows-full m stopped (Some e) q full same = subst (λ z. EndGrowsBy (m ∷ []) stopped (Some e) z) (sym same) (FirstPart full (m ∷ []) refl)
+grows-full m stopped (Some e) q full same = subst (λ z. EndGrowsBy (m ∷ []) stopped (Some e) z) (sym same) (FirstPart full (m ∷ []) refl, looks-same e)
 
 waits-grow : (get : Node → Option AtEdge) (m : Message) (put : AtEdge → Node) (a n b : Node) → ((e : AtEdge) → get (put e) ≡ Some e) → get (stopped_by NoMemory n) ≡ get a
     → WaitsAt m put a n b (get a) → EndGrowsBy (m ∷ []) b.core.stopped (get a) (get b)
@@ -348,10 +357,12 @@ tell-grow heard stopped (Some x) None m r full g t k = absurd g
 tell-grow heard stopped (Some x) (Some y) m r full g t k = by r (subst (λ z. SameGiven z r) t k) where
   by : (z : Option AtEdge) → SameGiven (Some (record y { waiting = y.waiting ++ last_error wanting y })) z → EndGrowsBy heard stopped (Some x) z
   by None h = absurd h
-  by (Some z) h =
-      subst (λ s. IsGiven (given x ++ heard) (given z) s) (sym full)
-      (subst (λ ms. IsGiven (given x ++ heard) ms (Some NoMemory)) (append_assoc y.to.sent y.waiting (last_error wanting y) ∙ sym h)
-      (last-given (given x ++ heard) (given y) (has_end (given y)) refl (subst (λ s. IsGiven (given x ++ heard) (given y) s) full g)))
+  by (Some z) h = (
+    subst (λ s. IsGiven (given x ++ heard) (given z) s) (sym full)
+        (subst (λ ms. IsGiven (given x ++ heard) ms (Some NoMemory)) (append_assoc y.to.sent y.waiting (last_error wanting y) ∙ sym h.0)
+        (last-given (given x ++ heard) (given y) (has_end (given y)) refl (subst (λ s. IsGiven (given x ++ heard) (given y) s) full g.0))),
+    looks-then x.to.looks y.to.looks z.to.looks g.1 h.1,
+  )
 
 pub tells-give : (a d c : Node) → d.core.stopped ≡ Some NoMemory → GivesHeard a d → TellsBoth d c → GivesHeard a c
 tells-give a d c full g h =
@@ -420,7 +431,7 @@ ends-post heard stopped (Some x) (Some y) more g = record {
   sent = more.sent;
   given = given-behind x.to.sent (x.waiting ++ heard) (more.posted ++ y.waiting) stopped
       (subst (λ ms. IsGiven ms (x.to.sent ++ (more.posted ++ y.waiting)) stopped) (append_assoc x.to.sent x.waiting heard)
-      (subst (λ ms. IsGiven (given x ++ heard) ms stopped) (ap (λ ms. ms ++ y.waiting) more.sent ∙ append_assoc x.to.sent more.posted y.waiting) g));
+      (subst (λ ms. IsGiven (given x ++ heard) ms stopped) (ap (λ ms. ms ++ y.waiting) more.sent ∙ append_assoc x.to.sent more.posted y.waiting) g.0));
 }
 
 pub gives-post : (a b : Node) (m n : Moment) (p q : Got) → Went a b m n p q → GivesHeard a b → PostsHeard a b

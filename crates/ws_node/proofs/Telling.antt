@@ -1,5 +1,5 @@
 -- A node that finds no memory tells its neighbours so: an error waits behind all that was given to the ends of its edges, and what waits is posted.
-use Rattle.std.proofs.Common.{◌≡◌, ◌+◌, ℕ, Bool, true, false, if◌then◌else◌, List, [], ◌∷◌, ◌++◌, length, Option, Some, None, refl, sym, ap, ◌∙◌, subst, append-nil, append_assoc, arith}
+use Rattle.std.proofs.Common.{◌≡◌, ◌+◌, ◌≤◌, ◌<◌, ℕ, Bool, true, false, if◌then◌else◌, List, [], ◌∷◌, ◌++◌, length, Option, Some, None, refl, sym, ap, ◌∙◌, subst, append-nil, append_assoc, arith}
 use Rattle.std.specs.List.{concat}
 use Rattle.ws_value.specs.declared.fault.Fault.TheVariants.{NoMemory as NoMemoryFault}
 use Rattle.ws_value.specs.declared.ids.PortId.{PortId}
@@ -24,10 +24,11 @@ use Rattle.ws_realm.specs.declared.realm.Why.{Why}
 use Rattle.ws_realm.specs.declared.realm.Why.TheVariants as why
 use Rattle.ws_node.specs.declared.node.Exit.{Exit}
 use Rattle.ws_node.specs.declared.node.Node.{Node}
-use Rattle.ws_node.specs.Edges.{TellsBoth, tells_at}
+use Rattle.ws_node.specs.Edges.{TellsBoth, posts_at, tells_at}
 use Rattle.ws_node.specs.Node.{in_bytes, coming, held, lies_in, lying, lying_by, nothing_yet, received_at, rows_at, sent_at, waiting_at, works_in}
 use Rattle.ws_node.specs.Past.{IsGiven, Whole, FirstPart, WithLast, EndHas, EndsHave, IsFed, Led, Since, Driven}
 use Rattle.ws_node.specs.Shape.{Shape}
+use Rattle.ws_node.specs.Turns.{EndGrowsBy, IsToldAt}
 use Rattle.ws_node.specs.Went.{EndGrows, GoesOut, Went}
 use Rattle.ws_node.proofs.Going.{comes-then, core-then, fed-went, outs-then, head-stays, short-then}
 use Rattle.ws_node.proofs.Nearing.{near-stopped, near-then}
@@ -84,6 +85,29 @@ tell-has port past (Some e) h = record {
       (last-given (posted_in port (taken_events past empty)) (given e) (has_end (given e)) refl h.given);
   taken = h.taken;
 }
+
+-- so all that was given has an end, and the end posts that as far as there is room
+
+looks-on : (x y z : ℕ) → x ≤ y → y < z → x < z
+looks-on x y z f g = omega (arith, f, g)
+
+last-ends : (ms : List Message) (b : Bool) → has_end ms ≡ b → has_end (ms ++ (if b then [] else Error wanting ∷ [])) ≡ true
+last-ends ms true e = ap has_end (append-nil ms) ∙ e
+last-ends ms false e = ends-so ms wanting
+
+told-ends-so : (y : AtEdge) → has_end (given (record y { waiting = y.waiting ++ last_error wanting y })) ≡ true
+told-ends-so y = ap has_end (sym (append_assoc y.to.sent y.waiting (last_error wanting y))) ∙ last-ends (given y) (has_end (given y)) refl
+
+pub told-end : (heard : List Message) (stopped : Option Why) (posted : Bool) (o q m r : Option AtEdge) → EndGrowsBy heard stopped o q → tells_at q m → posts_at posted m r → IsToldAt o r
+told-end heard stopped posted None q m r g t h = (subst (λ z. posts_at posted z r) (subst (λ z. tells_at z m) g t) h).0
+told-end heard stopped posted (Some x) None m r g t h = absurd g
+told-end heard stopped posted (Some x) (Some y) m r g t h = by r (subst (λ z. posts_at posted z r) t h) where
+  by : (z : Option AtEdge) → posts_at posted (Some (record y { waiting = y.waiting ++ last_error wanting y })) z → IsToldAt (Some x) z
+  by None h = absurd h
+  by (Some z) h = record {
+    ended = ap has_end h.given_is ∙ told-ends-so y;
+    full = λ some. let f = h.full some in (looks-on x.to.looks y.to.looks z.to.looks g.1 f.0, f.1);
+  }
 
 -- nothing lies in a node that has stopped, so an error behind all is no less
 

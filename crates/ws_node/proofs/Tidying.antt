@@ -92,7 +92,7 @@ module _ (a : Node) (realm : SeenRealm) (goes : a.core.stopped ≡ None) (alike 
   tidied-turn Worked x needed h = ((h.0, tidied-over ∙ h.1, tidied-done x h.2), needed)
   tidied-turn Idle x needed h = ((h.0, tidied-over ∙ h.1, h.2, record { above = h.3.above; below = h.3.below }), needed)
   tidied-turn Ended x needed h = ((h.0, tidied-over ∙ h.1), needed)
-  tidied-turn NoMemory x needed h = absurd (cc)
+  tidied-turn NoMemory x needed h = absurd (let e = h.0 in cc)
   tidied-turn Spent x needed h = absurd (let e = h.0 in cc)
 
 -- where the realm has stopped, nothing is forgotten

@@ -22,12 +22,13 @@ use Rattle.ws_node.specs.Edges.{posts_at, PostsBoth, TellsBoth, NoneHeld, NoEnd,
 use Rattle.ws_node.specs.Moves.{Asks, Performed, Refused}
 use Rattle.ws_node.specs.Node.{is_busy, is_over, port_below, received_at, sent_at}
 use Rattle.ws_node.specs.Past.{Driven}
-use Rattle.ws_node.specs.Turns.{GivesHeard, PostsHeard, GoesBy, IsBegun, JobFirst, EventFirst, SameEnds, TookOne, PostedOne, IsQuietEnd, AreQuiet, HasDone, SentAbove, SentBelow, Begun, Turned}
+use Rattle.ws_node.specs.Turns.{GivesHeard, PostsHeard, GoesBy, IsBegun, JobFirst, EventFirst, SameEnds, TookOne, PostedOne, IsQuietEnd, AreQuiet, AreTold, HasDone, SentAbove, SentBelow, Begun, Turned}
 use Rattle.ws_node.specs.Went.{ComesIn, ByInput, ByEdge, GoesOut, ToOutput, ToEdge, Went}
 use Rattle.ws_node.proofs.Giving.{gives-post, gives-then, posts-give, takes-above-give, takes-below-give, tells-give}
 use Rattle.ws_node.proofs.Going.{Stays, went-then}
 use Rattle.ws_node.proofs.Handled.{Handled, since-handled, driven-handled}
 use Rattle.ws_node.proofs.Posting.{posts}
+use Rattle.ws_node.proofs.Telling.{told-end}
 use Rattle.ws_node.proofs.Taking.{takes-above, takes-below}
 
 -- What a turn does first
@@ -85,6 +86,14 @@ module _ (a b t u : Node) (posted up down : Bool) (s : Begins a b t u posted up 
   -- or finds no memory, and tells its neighbours so
   pub told-posts : (d e : Node) (m n : Moment) (p q : Got) → Went u d m n p q → GivesHeard u d → d.core.stopped ≡ Some why.NoMemory → TellsBoth d e → Went a e m n p q → PostsHeard a e
   told-posts d e m n p q on gives full tells whole = gives-post a e m n p q whole (tells-give a d e full (turn-gives d m n p q on gives) tells)
+
+  pub told-all : (d e : Node) (m n : Moment) (p q : Got) → Went u d m n p q → GivesHeard u d → TellsBoth d e → AreTold a e
+  told-all d e m n p q on gives tells =
+      let g = turn-gives d m n p q on gives in
+      record {
+        above = told-end _ d.core.stopped tells.posts.above a.entrance.above d.entrance.above tells.mid.entrance.above e.entrance.above g.above tells.tells_above tells.posts.posts_above;
+        below = told-end _ d.core.stopped tells.posts.below a.exit.below d.exit.below tells.mid.exit.below e.exit.below g.below tells.tells_below tells.posts.posts_below;
+      }
 
   posted-went : (m n : Moment) (p q : Got) (d : Node) → Went u d m n p q → Went b d m n p q
   posted-went m n p q d on = went-then b u d m m n p p q (went-then b t u m m m p p p (second m p).went (third m p).went) on

@@ -1,5 +1,5 @@
 -- What the methods of a node do at the ends of its edges, each told as it is.
-use Rattle.std.specs.Prelude.{◌≡◌, ◌≢◌, ◌+◌, ◌-◌, ◌<◌, Bool, true, false, ◌||◌, List, [], ◌∷◌, ◌++◌, length, Option, Some, None}
+use Rattle.std.specs.Prelude.{◌≡◌, ◌≢◌, ◌+◌, ◌-◌, ◌<◌, ◌≤◌, Bool, true, false, ◌||◌, List, [], ◌∷◌, ◌++◌, length, Option, Some, None}
 use Rattle.ws_value.specs.declared.fault.Fault.TheVariants.{NoMemory as NoMemoryFault}
 use Rattle.ws_value.specs.declared.ids.PortId.{PortId}
 use Rattle.ws_value.specs.declared.value.Message.{Message}
@@ -31,6 +31,7 @@ pub record PostsEnd (posted : Bool) (a b : AtEdge) : Type 0 where
   pub row : b.to.row ≡ a.to.row
   pub from : b.from ≡ a.from
   pub traced : b.traced ≡ a.traced
+  pub looked : a.to.looks ≤ b.to.looks
   pub some : posted ≡ true → length a.to.sent < length b.to.sent
   pub none : posted ≡ false → b.to.sent ≡ a.to.sent
   pub full : is_empty b.waiting ≡ false → FindsFull a.to b.to

@@ -1,7 +1,7 @@
 -- What a turn of a node does first, and what it answers.
-use Rattle.std.specs.Prelude.{◌≡◌, ◌<◌, ◌&&◌, Bool, true, false, List, ◌∷◌, ◌++◌, length, Option, Some, None}
+use Rattle.std.specs.Prelude.{◌≡◌, ◌<◌, ◌≤◌, ◌&&◌, Bool, true, false, List, ◌∷◌, ◌++◌, length, Option, Some, None}
 use Rattle.ws_value.specs.declared.value.Message.{Message}
-use Rattle.ws_steps.specs.PortHistory.{posted_in}
+use Rattle.ws_steps.specs.PortHistory.{has_end, posted_in}
 use Rattle.ws_steps.specs.Queues.{is_empty}
 use Rattle.ws_steps.specs.Run.{Entry, Worked as JobWorked, Heard, run, is_idle}
 use Rattle.ws_steps.specs.Slots.{is_live}
@@ -58,11 +58,11 @@ pub record SameEnds (a b : Node) : Type 0 where
   pub below : b.exit.below ≡ a.exit.below
 
 -- An end was given to post what it was given before, and then the messages of which the host heard meanwhile; where no memory was to be had, a first part of
--- these, and at most one error behind it
+-- these, and at most one error behind it. It looks no less often than before
 abbrev pub EndGrowsBy : List Message → Option Why → Option AtEdge → Option AtEdge → Type 0
 EndGrowsBy heard stopped None b = b ≡ None
 EndGrowsBy heard stopped (Some a) None = ⊥
-EndGrowsBy heard stopped (Some a) (Some b) = IsGiven (given a ++ heard) (given b) stopped
+EndGrowsBy heard stopped (Some a) (Some b) = IsGiven (given a ++ heard) (given b) stopped × (a.to.looks ≤ b.to.looks)
 
 -- some run leads from the realm of a to that of b, and its ends are given what the host heard of in it that their ports posted
 pub record GivesHeard (a b : Node) : Type 0 where
@@ -107,6 +107,21 @@ pub record AreQuiet (a b : Node) : Type 0 where
   pub above : IsQuietEnd (is_live source_port a.core.realm.slots && takes_more a.entrance.input) a.entrance.above b.entrance.above
   pub below : IsQuietEnd (is_live (port_below a.entrance) a.core.realm.slots) a.exit.below b.exit.below
 
+-- At an end the neighbour was told that no memory was to be had: of what the end was given one message is a close or an error, and all of it was posted, or a
+-- look found the row full
+pub record IsToldEnd (a b : AtEdge) : Type 0 where
+  pub ended : has_end (given b) ≡ true
+  pub full : is_empty b.waiting ≡ false → FindsFull a.to b.to
+
+abbrev pub IsToldAt : Option AtEdge → Option AtEdge → Type 0
+IsToldAt None b = b ≡ None
+IsToldAt (Some a) None = ⊥
+IsToldAt (Some a) (Some b) = IsToldEnd a b
+
+pub record AreTold (a b : Node) : Type 0 where
+  pub above : IsToldAt a.entrance.above b.entrance.above
+  pub below : IsToldAt a.exit.below b.exit.below
+
 -- what was done in a turn: a message was taken or posted, or what waited was begun with
 pub data HasDone (a b : Node) : Type 0 where
   SentAbove : HasSent a.entrance.above b.entrance.above → HasDone a b
@@ -114,12 +129,12 @@ pub data HasDone (a b : Node) : Type 0 where
   Begun : IsBegun a b → HasDone a b
 
 -- what a turn did that began at a and came to b: it worked only where a message was taken or posted, a job performed or an event heard of, and was idle
--- only where no job was queued and no event waited, and there was nothing to be had at its ends
+-- only where no job was queued and no event waited, and there was nothing to be had at its ends. One that found no memory has told its neighbours so
 abbrev pub Turned : Turn → Node → Node → Type 0
 Turned Worked a b = (b.core.stopped ≡ None) × (is_over b ≡ false) × (HasDone a b)
 Turned Idle a b = (b.core.stopped ≡ None) × (is_over b ≡ false) × (is_busy a.core ≡ false) × (AreQuiet a b)
 Turned Ended a b = (b.core.stopped ≡ None) × (is_over b ≡ true)
-Turned NoMemory a b = b.core.stopped ≡ Some why.NoMemory
+Turned NoMemory a b = (b.core.stopped ≡ Some why.NoMemory) × (a.core.stopped ≡ None → AreTold a b)
 Turned Spent a b = (b.core.stopped ≡ Some why.Spent) × (b.core.realm.slots.age ≡ oldest)
 
 -- unless its realm has stopped, a node keeps no promise that nobody needs

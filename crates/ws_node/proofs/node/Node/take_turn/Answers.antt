@@ -1,4 +1,5 @@
 use Rattle.std.proofs.Common.{◌≡◌, ◌||◌, false, true, Some, refl, ap, subst, sym, ◌∙◌, arith}
+use Rattle.ws_node.specs.declared.node.Node.{Node}
 use Rattle.ws_node.specs.Edges.{PostsBoth}
 use Rattle.ws_node.specs.Turns.{Turned}
 use Rattle.ws_realm.specs.declared.realm.Why.TheVariants.{NoMemory}
@@ -6,7 +7,7 @@ use Rattle.ws_io.specs.Moment.{moment}
 use Rattle.ws_node.proofs.Giving.{posts-nothing}
 use Rattle.ws_node.proofs.Going.{went-same, went-then}
 use Rattle.ws_node.proofs.Telling.{tells}
-use Rattle.ws_node.proofs.Turning.{begins-driven, begins-went, done, idle, posted-only-driven, posted-only-gives, posted-only-turn, posted-only-went, told-posts, turn-posts}
+use Rattle.ws_node.proofs.Turning.{begins-driven, begins-went, done, idle, posted-only-driven, posted-only-gives, posted-only-turn, posted-only-went, told-all, told-posts, turn-posts}
 use Rattle.ws_node.proofs.node.Node.take_turn.Goals as goal
 
 pub returns-in-Some-NoMemory-clause-went : goal.returns-in-Some-NoMemory-clause-went
@@ -179,3 +180,16 @@ returns-in-Some-NoMemory-stopped-clause-posts g c =
     (moment (g.S.Source.faults c.args.input.now) (g.S.Source.feed c.args.input.now) (g.K.Sink.faults c.args.output.now) (g.K.Sink.finished c.args.output.now)) (g.K.Sink.got c.args.output.now))
     c.go_on.ensures.went)
     c.go_on.ensures.driven (let full : c.go_on.new.self.core.stopped ≡ Some NoMemory = first_of (grind (arith, c.in-Some-NoMemory-stopped.is, c.in-Some-NoMemory-stopped.field-0-is), search (arith, c.in-Some-NoMemory-stopped.is, c.in-Some-NoMemory-stopped.field-0-is)) in full) c.tell.ensures).went
+
+pub returns-in-Some-NoMemory-stopped-clause-turn : goal.returns-in-Some-NoMemory-stopped-clause-turn
+returns-in-Some-NoMemory-stopped-clause-turn g c =
+    let full : c.go_on.new.self.core.stopped ≡ Some NoMemory = first_of (grind (arith, c.in-Some-NoMemory-stopped.is, c.in-Some-NoMemory-stopped.field-0-is), search (arith, c.in-Some-NoMemory-stopped.is, c.in-Some-NoMemory-stopped.field-0-is)) in (
+      ap (λ (n : Node). n.core.stopped) c.tell.ensures.posts.is ∙ (ap (λ (n : Node). n.core.stopped) c.tell.ensures.is ∙ full),
+      λ goes.
+          told-all c.args.self.now c.post-posted.new.self c.take_above-above.new.self c.take_below-below.new.self c.post-posted.result c.take_above-above.result c.take_below-below.result
+          (record { driven = c.requires; goes = c.in-None.is; post = c.post-posted.ensures; above = c.take_above-above.ensures; below = c.take_below-below.ensures })
+          c.go_on.new.self c.tell.new.self
+          (moment (g.S.Source.faults c.args.input.now) (g.S.Source.feed c.args.input.now) (g.K.Sink.faults c.args.output.now) (g.K.Sink.finished c.args.output.now))
+          (moment (g.S.Source.faults c.go_on.new.input) (g.S.Source.feed c.go_on.new.input) (g.K.Sink.faults c.go_on.new.output) (g.K.Sink.finished c.go_on.new.output))
+          (g.K.Sink.got c.args.output.now) (g.K.Sink.got c.go_on.new.output) c.go_on.ensures.went c.go_on.ensures.gives c.tell.ensures,
+    )
