@@ -1,4 +1,5 @@
 //! Calls of which a load, a read, a write, a finish or a note fails.
+use crate::faults::FAULTS;
 use crate::whole::{Said, perform};
 use std::alloc::Global;
 use std::sync::Wait;
@@ -11,21 +12,21 @@ use ws_value::NoMemory;
 /// A call, how many bytes a read and a write move at most, the calls of its objects that fail, and what must come
 /// of it.
 #[derive(Clone, Copy)]
-struct Case<'a> {
-    said: Said<'a>,
-    input: &'a [u8],
-    most_read: u64,
-    most_written: u64,
-    failed_reads: &'a [u64],
-    failed_writes: &'a [u64],
-    failed_finishes: &'a [u64],
-    failed_notes: &'a [u64],
-    status: Status,
+pub(crate) struct Case<'a> {
+    pub(crate) said: Said<'a>,
+    pub(crate) input: &'a [u8],
+    pub(crate) most_read: u64,
+    pub(crate) most_written: u64,
+    pub(crate) failed_reads: &'a [u64],
+    pub(crate) failed_writes: &'a [u64],
+    pub(crate) failed_finishes: &'a [u64],
+    pub(crate) failed_notes: &'a [u64],
+    pub(crate) status: Status,
     /// What is written; of a pipeline whose input failed, a first part of it.
-    written: &'a [u8],
-    told: &'a [u8],
+    pub(crate) written: &'a [u8],
+    pub(crate) told: &'a [u8],
     /// How many reads are made, where that is told.
-    reads: Option<u64>,
+    pub(crate) reads: Option<u64>,
 }
 
 /// Whether all that must come of a call comes of it, in notes of five bytes.
@@ -85,14 +86,14 @@ const COPY: Case = Case {
 };
 
 /// A read that fails: all that was read before was written, and nothing more is read.
-const FAILED_READ: Case = Case {
+pub(crate) const FAILED_READ: Case = Case {
     failed_notes: &[],
     status: Status::ReadFault,
     told: b"read fault\n",
     ..COPY
 };
 
-const FAILED_WRITE: Case = Case {
+pub(crate) const FAILED_WRITE: Case = Case {
     failed_notes: &[],
     status: Status::WriteFault,
     told: b"write fault\n",
@@ -100,7 +101,7 @@ const FAILED_WRITE: Case = Case {
 };
 
 /// The words that run the file `p`, of which a second load would fail.
-const RUN: Said = Said {
+pub(crate) const RUN: Said = Said {
     words: &[b"run", b"p"],
     file: b"version = 1\n",
     failed_loads: &[2],
@@ -169,7 +170,7 @@ const CHECK: Case = Case {
     ..FAILED_WRITE
 };
 
-const FAILED_LOAD: Case = Case {
+pub(crate) const FAILED_LOAD: Case = Case {
     said: Said {
         words: &[b"check", b"p"],
         failed_loads: &[1],
@@ -464,6 +465,9 @@ fn failing_calls(rt: HostRuntime) -> Result<(), Fail> {
     let alloc = rt.alloc();
     for (number, case) in CASES.iter().enumerate() {
         assert!(rt; holds(&rt, alloc, case)?, "case {number}");
+    }
+    for (number, case) in FAULTS.iter().enumerate() {
+        assert!(rt; holds(&rt, alloc, case)?, "fault {number}");
     }
     for (number, case) in FAILED_BLOCKS.iter().enumerate() {
         for most_read in [1, 5, 4096] {
