@@ -11,6 +11,8 @@ from concurrent.futures import ThreadPoolExecutor
 
 from cases import NotWanted, all_cases, strays
 from documents import all_documents, outcomes
+from hostile import hostile_cases
+from hostile_made import hostile_made
 from made_cases import made_cases
 from program import PROGRAM
 from worker_cases import worker_cases
@@ -30,7 +32,7 @@ def main():
         print(f"examples: {PROGRAM} isn't built")
         return 1
     try:
-        cases = [*all_cases(), *made_cases(), *worker_cases()]
+        cases = [*all_cases(), *made_cases(), *worker_cases(), *hostile_cases(), *hostile_made()]
     except NotWanted as why:
         print(f"examples: {why}")
         return 1

@@ -1,14 +1,17 @@
 """Cases that are too long to be written down: each is made by a rule, and so is what is to come of it."""
 import pathlib
+import resource
 import tempfile
 
 from cases import Case, read, unread
-from program import NAME, Wanted
+from program import NAME, Wanted, call
 
 STREAMS = 1024  # a realm has no more
 MOST_BYTES = 1_048_576  # of a script, and of a pipeline file
 MOST_OF_A_LINE = 65_536
 TEES = 300
+ROOMS = 4096  # of reads, of 64 KiB each
+LITTLE = ROOMS * 65_536 // 2  # less memory than all of them take
 
 
 def made_script(name, text, printed, told=""):
@@ -76,6 +79,24 @@ def scripts_of_the_most_bytes():
         made_script("a comment of a byte more", "#" * (MOST_BYTES + 1), "", "script refused 0\n"),
         made_script("a bad line of the most bytes", "!" * MOST_BYTES, "", "script refused 1\n"),
         made_script("a bad line of a byte more", "!" * (MOST_BYTES + 1), "", "script refused 0\n"),
+    ]
+
+
+def in_little_memory(name, text, printed, told=""):
+    def limit():
+        resource.setrlimit(resource.RLIMIT_AS, (LITTLE, LITTLE))
+
+    wants = Wanted(printed.encode(), told.encode())
+    return Case(f"made: {name}", (), lambda: call([NAME, b"script"], text.encode(), limit=limit)[0].differs(wants))
+
+
+def rooms_of_reads():
+    """A room is taken as its line is performed, and given back where the call throws."""
+    reads = "readinto l0 65536 1\n" * ROOMS
+    thrown = "".join(f"{n} throws Unsupported\n" for n in range(1, ROOMS + 1))
+    return [
+        in_little_memory("rooms of reads that throw", reads, thrown),
+        in_little_memory("rooms before a bad line", reads + "!\n", "", f"script refused {ROOMS + 1}\n"),
     ]
 
 
@@ -158,6 +179,7 @@ def made_cases():
     return [
         *full_realms(),
         *scripts_of_the_most_bytes(),
+        *rooms_of_reads(),
         chain_of_tees(),
         *plans_of_the_most_bytes(),
         *long_runs(),

@@ -65,8 +65,10 @@ class Ended(NamedTuple):
         )
 
 
-def ended(words, given, folder):
-    """How a call ends, in this folder and with this file or socket as its input. Its first word is the name."""
+def ended(words, given, folder, limit=None):
+    """How a call ends, in this folder and with this file or socket as its input. Its first word is the name.
+
+    The process sets a limit of the system's to itself first, where there is one."""
     done = subprocess.run(
         words,
         executable=PROGRAM,
@@ -75,16 +77,17 @@ def ended(words, given, folder):
         stdout=subprocess.PIPE,
         stderr=subprocess.PIPE,
         timeout=SECONDS,
+        preexec_fn=limit,
     )
     return Ended(done.returncode, done.stdout, done.stderr)
 
 
-def call(words, given, folder=None):
+def call(words, given, folder=None, limit=None):
     """How a call ends with these bytes in a file as its input, and how many of them were read."""
     with tempfile.TemporaryFile() as file:
         file.write(given)
         file.seek(0)
-        done = ended(words, file, folder)
+        done = ended(words, file, folder, limit)
         return done, os.lseek(file.fileno(), 0, os.SEEK_CUR)
 
 
