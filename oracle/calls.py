@@ -318,8 +318,7 @@ def read(realm: Realm, lock: int) -> Reply:
 
 def read_into(realm: Realm, lock: int, length: int, element_size: int,
               minimum: int = 1) -> Reply:
-    """reader.read(view, { min }) of a BYOB reader, with a view of a new buffer of this length. A
-    script gives no minimum"""
+    """reader.read(view, { min }) of a BYOB reader, with a view of a new buffer of this length"""
     reader = realm.byob_reader(lock)
     if element_size not in ELEMENT_SIZES or length % element_size != 0:
         raise Throw("Unsupported")

@@ -49,7 +49,8 @@ LIMITS = ("0", "0", "0", "1", "1", "1", "2", "2", "3", "4", "7", "100000")
 AUTO_LENGTHS = ("0", "0", "0", "1", "2", "3", "4", "4096")
 ELEMENT_SIZES = ((1,), (1,), (2,), (1, 2), (2, 4), (4,), (1, 2, 4, 8))
 ODD_BUFFERS = ("0 1", "0 8", "0 3", "4 0", "4 3", "8 16", "6 4", "5 2", "255 255", "12 8",
-               "65536 8", "65536 1", "65535 1")
+               "65536 8", "65536 1", "65535 1", "0 1 0", "0 2 1", "4 2 0", "4 2 3", "8 1 9",
+               "6 4 2", "65536 1 65536", "8 8 18446744073709551615", "4 2 9223372036854775809")
 # What the other end of a port sends to a readable and to a writable end. Some is for neither.
 MESSAGES = (("chunk",) * 6 + ("close", "error"), ("pull",) * 6 + ("error",))
 PREVENTS = ("prevent-close", "prevent-abort", "prevent-cancel")
@@ -91,8 +92,10 @@ class Author:
         self._byob = random.choice((0.0, 0.3, 0.7, 0.9, 1.0))
         self._longest = random.choice((1, 1, 2, 4, 9))
         self._element_sizes = random.choice(ELEMENT_SIZES)
+        self._least = random.choice((0.0, 0.3, 0.8, 1.0))
         self._lets_go = random.choice((0.0, 0.0, 0.2, 0.8))
         self._answers = random.choice((0.0, 0.2, 0.5, 0.8))
+        self._hands_out = random.choice((0.0, 0.0, 0.3, 0.8))
         self._next_byte = random.randrange(256)
         self._destinations: dict[int, set[int]] = {}
         self._goes_round = False
@@ -194,6 +197,9 @@ class Author:
         waiting = list(filter(self._has_pull_intos, range(len(self._realm.streams))))
         if waiting and self._random.random() < self._lets_go:
             return self._let_go(self._random.choice(waiting))
+        held = list(filter(self._holds_elements, waiting))
+        if held and self._random.random() < self._hands_out:
+            return self._hand_out(self._random.choice(held))
         if waiting and self._random.random() < self._answers:
             return self._respond()
         [call] = self._random.choices(self._calls, self._weights)
@@ -266,6 +272,19 @@ class Author:
         return isinstance(controller, ReadableByteStreamController) and \
             bool(controller.pending_pull_intos)
 
+    def _holds_elements(self, number: int) -> bool:
+        """Whether the first buffer of this byte stream, which is its reader's, holds whole
+        elements."""
+        first = self._realm.streams[number].controller.pending_pull_intos[0]
+        return (first.reader_type == "byob" and first.bytes_filled > 0
+                and first.bytes_filled % first.element_size == 0)
+
+    def _hand_out(self, number: int) -> str | None:
+        """A close of such a stream, and once it has closed, an answer that hands them out."""
+        if self._realm.streams[number].state == "readable":
+            return f"finish s{number}"
+        return self._respond()
+
     def _let_go(self, number: int) -> str | None:
         """The release of a reader that waits, of one with its own buffer often once the buffer
         has a byte. Where that was done, a new reader of any kind for what it left; then a read of
@@ -333,9 +352,13 @@ class Author:
         return self._of_lock("readinto", ReadableStreamBYOBReader, (buffer,))
 
     def _buffer(self) -> str:
-        """A buffer of whole elements."""
+        """A buffer of whole elements, and often how many of them are wanted at least."""
         element_size = self._random.choice(self._element_sizes)
-        return f"{element_size * self._random.randint(1, 4)} {element_size}"
+        elements = self._random.randint(1, 4)
+        buffer = f"{element_size * elements} {element_size}"
+        if self._random.random() >= self._least:
+            return buffer
+        return f"{buffer} {self._random.randint(1, elements)}"
 
     def _respond(self) -> str | None:
         """An answer to a request, mostly to one that is alive, and mostly with some of the bytes

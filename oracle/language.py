@@ -109,6 +109,10 @@ def element_size(word: bytes) -> int:
     return number_in(word, LARGEST_ELEMENT + 1)
 
 
+def least_count(word: bytes) -> int:
+    return number_in(word, 2**64)
+
+
 def chosen(word: bytes, choices: Mapping[bytes, Choice]) -> Choice:
     """What one of these words stands for."""
     if word not in choices:
@@ -216,7 +220,8 @@ FORMS: dict[bytes, tuple[Form, ...]] = {
     b"byob": (((stream,), calls.get_byob_reader),),
     b"writer": (((stream,), calls.get_writer),),
     b"read": (((lock,), calls.read),),
-    b"readinto": (((lock, view_length, element_size), calls.read_into),),
+    b"readinto": (((lock, view_length, element_size), calls.read_into),
+                  ((lock, view_length, element_size, least_count), calls.read_into)),
     b"write": (((lock, value), calls.write),),
     b"cancel": (((stream, reason), calls.cancel), ((lock, reason), calls.cancel_by_reader)),
     b"close": (((stream,), calls.close), ((lock,), calls.close_by_writer)),
