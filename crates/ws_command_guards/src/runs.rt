@@ -1,5 +1,6 @@
 //! Runs of a plan.
 ghost use Rattle.std.specs.Prelude.{IfOk, None};
+ghost use Rattle.ws_io.specs.Emptied.{LeavesNothing};
 ghost use Rattle.ws_io.specs.Moment.{moment};
 ghost use Rattle.ws_node.specs.Ends.{EndsAs};
 ghost use Rattle.ws_node.specs.Opening.{IsAccepted};
@@ -31,10 +32,11 @@ pub fn run_nodes<R: Threads + Wait + Sync, S: Source, K: Sink, G: Gate>(
     trace: bool,
 ) -> Finished
     requires { IsAccepted plan.now }
-    ensures { Finishes result plan.now trace
+    ensures finishes { Finishes result plan.now trace
         (moment (S.faults input.old) (S.feed input.old) (K.faults output.old) (K.finished output.old))
         (moment (S.faults input.new) (S.feed input.new) (K.faults output.new) (K.finished output.new))
         (K.got output.old) (K.got output.new) }
+    ensures emptied { LeavesNothing result.status (K.got output.new) }
 {
     ws_runner::run_nodes(rt, alloc, plan, input, output, gate, trace)
 }

@@ -1,7 +1,9 @@
 //! Scripts.
 ghost use Rattle.std.specs.Prelude.{◌≡◌, ◌<◌, ◌≤◌, ◌⊎◌, ℕ, List, length, Ok, Err, IfOk, OnOk, OnErr};
+ghost use Rattle.ws_io.specs.Emptied.{LeavesNothing};
 ghost use Rattle.ws_io.specs.Faults.{Calm};
 ghost use Rattle.ws_io.specs.Feed.{HasLeft};
+ghost use Rattle.ws_io.specs.Gain.{IsEmptied};
 ghost use Rattle.ws_io.specs.Moment.{moment};
 ghost use Rattle.ws_steps.specs.Run.{heard};
 ghost use Rattle.ws_grammar.specs.declared.line.Line.{Line};
@@ -22,6 +24,7 @@ pub fn run_script<S: Source, K: Sink>(alloc: Global, input: &mut S, output: &mut
         (moment (S.faults input.old) (S.feed input.old) (K.faults output.old) (K.finished output.old))
         (moment (S.faults input.new) (S.feed input.new) (K.faults output.new) (K.finished output.new))
         (K.got output.old) (K.got output.new) }
+    ensures emptied { IsEmptied (K.got output.old) → LeavesNothing result (K.got output.new) }
     ensures complete { (text : List ℕ) (found : List Line) → HasLeft (S.feed input.old) text
         → length text ≤ most_bytes → lines text ≡ Ok found
         → Calm (S.faults input.old) (S.faults input.new) → Calm (K.faults output.old) (K.faults output.new)
