@@ -7,6 +7,12 @@ from program import NAME, Wanted
 MOST_OF_A_CHUNK = 1_048_576
 MANY = 10_000
 WAITING = 100_000
+# What ends all reads that wait, and with which outcome.
+ENDS_OF_READS = (
+    ("an error", "fail s0 e1", "rejected e1"),
+    ("a close", "finish s0", "finished undefined"),
+    ("a release", "release l0", "rejected TypeError"),
+)
 
 
 def asked_for(name, line, made, most, count):
@@ -46,20 +52,13 @@ def many_that_wait():
     closed, asked = promises(3, WAITING, "closed l0")
     closed_before = closed.replace("closed l0\n", "", 1)
     return [
-        made_script(
-            "a hundred thousand reads, and an error",
-            begin + reads[: -len("read l0\n")] + "fail s0 e1\n",
-            begun + read + f"{last} done\n" + "".join(f"  p{n} rejected e1\n" for n in each),
-        ),
-        made_script(
-            "a hundred thousand reads, and a close",
-            begin + reads[: -len("read l0\n")] + "finish s0\n",
-            begun + read + f"{last} done\n" + "".join(f"  p{n} finished undefined\n" for n in each),
-        ),
-        made_script(
-            "a hundred thousand reads, and a release",
-            begin + reads[: -len("read l0\n")] + "release l0\n",
-            begun + read + f"{last} done\n" + "".join(f"  p{n} rejected TypeError\n" for n in each),
+        *(
+            made_script(
+                f"a hundred thousand reads, and {what}",
+                begin + reads[: -len("read l0\n")] + f"{last_call}\n",
+                begun + read + f"{last} done\n" + "".join(f"  p{n} {outcome}\n" for n in each),
+            )
+            for what, last_call, outcome in ENDS_OF_READS
         ),
         made_script(
             "one promise a hundred thousand times",

@@ -8,7 +8,7 @@ const TEXT: &[u8] = b"version = 1\n";
 
 const NAME: &str = "ws_tests_a_file";
 
-/// That a source reads what a file holds, a sink leaves in a file what was written to it, and a load is the file's text.
+/// That a source reads what a file holds, a sink leaves in a file what was written to it, and a load is a file's text.
 #[test]
 fn adapters_over_files(rt: HostRuntime) -> Result<(), Fail> {
     let alloc = rt.alloc();
