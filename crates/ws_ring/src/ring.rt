@@ -1,9 +1,11 @@
 //! A queue that lies in a ring.
 ghost use Rattle.std.specs.Prelude.{◌≡◌, ◌<◌, ◌≤◌, ◌+◌, ◌-◌, ◌^◌, ◌==◌, [], ◌∷◌, ◌++◌, length, drop, slice_get, option_copied, option_to_list, IsOk, OnOk, OnErr};
+ghost use Rattle.ws_ring.specs.Seen.{with_front};
 
 use circular_buffer::HeapCircularBuffer;
 use std::alloc::Global;
 use std::marker::Model;
+use std::mem::replace;
 use ws_value::NoMemory;
 
 /// A queue in one block of memory, in which it goes round. It is seen as the list of its items, from the front on, and
@@ -134,9 +136,12 @@ impl<T: Drop> Ring<T> {
         ensures len { length self.new.items ≡ length self.old.items + 1 }
         ensures capacity { self.new.capacity ≡ self.old.capacity }
     {
-        if let Some(buffer) = &mut self.buffer {
-            let _full = buffer.try_push_back(item);
-        }
+        let Some(buffer) = &mut self.buffer else {
+            unreachable!()
+        };
+        let Ok(()) = buffer.try_push_back(item) else {
+            unreachable!()
+        };
     }
 
     /// Puts an item at the front.
@@ -147,13 +152,33 @@ impl<T: Drop> Ring<T> {
         ensures len { length self.new.items ≡ length self.old.items + 1 }
         ensures capacity { self.new.capacity ≡ self.old.capacity }
     {
-        if let Some(buffer) = &mut self.buffer {
-            let _full = buffer.try_push_front(item);
+        let Some(buffer) = &mut self.buffer else {
+            unreachable!()
+        };
+        let Ok(()) = buffer.try_push_front(item) else {
+            unreachable!()
+        };
+    }
+
+    /// Puts an item in the place of the first, where there is one, which is answered.
+    #[inline(always)]
+    pub fn replace_front(&mut self, item: T) -> Option<T>
+        ensures value { result ≡ slice_get self.old.items 0 }
+        ensures items { self.new.items ≡ with_front item self.old.items }
+        ensures len { length self.new.items ≡ length self.old.items }
+        ensures capacity { self.new.capacity ≡ self.old.capacity }
+    {
+        let Some(buffer) = &mut self.buffer else {
+            return None;
+        };
+        match buffer.get_mut(0) {
+            Some(first) => Some(replace(first, item)),
+            None => None,
         }
     }
 
     /// Takes the first item.
-    #[inline]
+    #[inline(always)]
     pub fn pop_front(&mut self) -> Option<T>
         ensures value { result ≡ slice_get self.old.items 0 }
         ensures items { self.old.items ≡ option_to_list result ++ self.new.items }
