@@ -6,6 +6,6 @@ mod short;
 
 pub use jobs::Jobs;
 pub use short::{
-    Short, is_reaction, is_whole, short_follow, short_micro, short_of, short_react,
+    Short, is_reaction, is_whole, reaction_in, short_follow, short_micro, short_of, short_react,
     short_reaction_names,
 };

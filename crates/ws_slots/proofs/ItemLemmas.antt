@@ -7,7 +7,7 @@ use Rattle.std.proofs.lemmas.Option.{slice_get_past}
 use Rattle.ws_slots.specs.Slot.{Slot}
 use Rattle.ws_slots.specs.declared.slots.Open.{Open}
 use Rattle.ws_slots.specs.declared.slots.Settled.{Settled}
-use Rattle.ws_slots.specs.Words.{Apart, ended_slot, is_pending_slot, items_from, new_slot, slot_in, slot_of, settled_slot}
+use Rattle.ws_slots.specs.Words.{Apart, ended_slot, is_pending_slot, items_from, slot_in, slot_of, settled_slot}
 use Rattle.ws_steps.specs.Promises.{is_pending}
 use Rattle.ws_places.specs.Seen.{value_in, without, with_value, put_in}
 use Rattle.ws_places.proofs.ValueLemmas.{value-kept, value-new, value-without, value-without_other, value-with, value-with_other, value-put, value-put_other}
@@ -66,11 +66,11 @@ pub past-shown : (n p : ℕ) (os : List (ℕ × Open)) (ss : List (ℕ × Settle
 past-shown n p os ss xs e l = slice_get_past xs p (omega (arith, length-shown n os ss xs e, l))
 
 -- a new promise
-pub pushed : (n : ℕ) (o : Open) (os ps : List (ℕ × Open)) (ss : List (ℕ × Settled)) (xs : List (Option Slot)) → items_from 0 n os ss ≡ xs → value_in n os ≡ None → ps ≡ os ++ (n, o) ∷ [] → slot_of o ≡ new_slot → items_from 0 (n + 1) ps ss ≡ xs ++ Some new_slot ∷ []
-pushed n o os ps ss xs e none is fresh =
+pub pushed : (n : ℕ) (o : Open) (os ps : List (ℕ × Open)) (ss : List (ℕ × Settled)) (xs : List (Option Slot)) → items_from 0 n os ss ≡ xs → value_in n os ≡ None → ps ≡ os ++ (n, o) ∷ [] → items_from 0 (n + 1) ps ss ≡ xs ++ Some (slot_of o) ∷ []
+pushed n o os ps ss xs e none is =
     let same = items-same 0 n os ss (os ++ (n, o) ∷ []) ss (λ m l. ap (λ v. slot_in v (value_in m ss)) (value-kept m n o os (λ f. absurd (omega (arith, f, l))))) in
     let new = value-new n o os none in
-    rw (is, add-one n, items-push 0 n n (os ++ (n, o) ∷ []) ss (omega arith), new, same, e, fresh) refl
+    rw (is, add-one n, items-push 0 n n (os ++ (n, o) ∷ []) ss (omega arith), new, same, e) refl
 
 -- a pending promise is written
 pub written : (n p : ℕ) (v w : Open) (os : List (ℕ × Open)) (ss : List (ℕ × Settled)) (xs : List (Option Slot)) → items_from 0 n os ss ≡ xs → p < n → value_in p os ≡ Some v → items_from 0 n (with_value p w os) ss ≡ slice_set xs p (Some (slot_of w))

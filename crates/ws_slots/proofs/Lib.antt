@@ -9,6 +9,7 @@ pub mod ItemLemmas
 pub mod SpentLemmas
 pub mod FirstLemmas
 pub mod WaitFirstLemmas
+pub mod ShortlyLemmas
 pub mod ReleaseLemmas
 pub mod NameLemmas
 pub mod KeptLemmas

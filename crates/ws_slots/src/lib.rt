@@ -3,6 +3,7 @@
 
 mod needed;
 mod places;
+mod shortly;
 mod slots;
 mod spent;
 mod waiting;
@@ -10,7 +11,8 @@ mod watched;
 
 pub use needed::{count_kept, firsts_name, release, waiting_names};
 pub use places::{answer, drop_job, follow, register, register_step, settle};
-pub use slots::{Open, Settled, Slots, is_recent, outcome_at, pending_slot, rank_at};
+pub use shortly::settle_shortly;
+pub use slots::{Open, Settled, Slots, outcome_at, pending_slot, rank_at, wait_first};
 pub use spent::spent_from;
 pub use waiting::Waiting;
 pub use watched::{Settling, note, watch};

@@ -1,6 +1,6 @@
 //! The promises by number. One that was fulfilled with undefined while nobody watched it takes no memory; any other has
 //! a place, which is used again. A pending one takes few bytes.
-ghost use Rattle.std.specs.Prelude.{◌≡◌, ◌≤◌, ◌<◌, ◌↔◌, ◌+◌, ◌^◌, ◌++◌, ◌∷◌, [], List, ℕ, length, Some, None, IfSome, IfNone, OnOk, slice_get, slice_set, true, false};
+ghost use Rattle.std.specs.Prelude.{◌≡◌, ◌≤◌, ◌<◌, ◌↔◌, ◌+◌, ◌^◌, ◌++◌, ◌∷◌, [], List, ℕ, length, Some, None, IsSome, IfSome, IfNone, OnOk, slice_get, slice_set, true, false};
 ghost use Rattle.ws_value.specs.declared.value.Outcome.TheVariants.{Fulfilled};
 ghost use Rattle.ws_value.specs.declared.value.Plain.TheVariants.{Undefined};
 ghost use Rattle.ws_steps.specs.Promises.{is_following_entry, is_open_entry, is_pending, settled};
@@ -133,6 +133,22 @@ impl Slots {
             first: Short::Whole,
         });
     }
+
+    /// Adds a pending promise, for which this reaction waits.
+    #[inline(always)]
+    pub fn push_waiting(&mut self, first: Short)
+        requires room { length self.old.items < self.old.limit }
+        requires waits { IsSome (reaction_in first) }
+        ensures { self.new ≡ record self.old
+            { items = self.old.items ++ Some (record new_slot { waits = 1; first = reaction_in first }) ∷ [] } }
+    {
+        let _number = self.places.keep(Open {
+            follows: false,
+            waits: 1,
+            rank: None,
+            first,
+        });
+    }
 }
 
 /// Whether a promise with this outcome hasn't settled.
@@ -245,7 +261,7 @@ pub fn put_outcome(slots: &mut Slots, p: PromiseId, rank: Option<u64>, outcome: 
 
 /// Has `p`, which isn't watched, end fulfilled with undefined. It leaves its place.
 #[inline(always)]
-fn put_undefined(slots: &mut Slots, p: PromiseId)
+pub fn put_undefined(slots: &mut Slots, p: PromiseId)
     requires pending { is_pending_slot (slice_get slots.old.items p.0) ≡ true }
     requires unwatched { rank_in (slice_get slots.old.items p.0) ≡ None }
     ensures items { (s : AnySlot) → slice_get slots.old.items p.0 ≡ Some (Some s)

@@ -37,5 +37,5 @@ returns c =
     let shown = ap (λ (v : SeenSlots). v.items) c.self.view_is in
     let limit = ap (λ (v : SeenSlots). v.limit) c.self.view_is in
     let k = c.keep-number.ensures in
-    let more = pushed a.places.next _ a.places.kept c.keep-number.new.self.kept a.settled.kept c.args.self.now.items shown k.none k.kept refl in
+    let more = pushed a.places.next _ a.places.kept c.keep-number.new.self.kept a.settled.kept c.args.self.now.items shown k.none k.kept in
     rw (k.next, ← limit) (ap (λ ss. record { items = ss; limit = a.limit }) more)
