@@ -11,7 +11,16 @@ use ws_steps::{Effect, Micro, PipeOperation, Step, WritableOperation};
 use ws_value::{PipeId, Value};
 
 impl Pipe {
+    /// Holds another chunk, and lets the one go that it held.
+    #[inline(never)]
+    fn hold_another(&mut self, chunk: Value)
+        ensures { self.new ≡ record self.old { held = Some chunk } }
+    {
+        self.held = Some(chunk);
+    }
+
     /// The chunk steps of its read request.
+    #[inline(always)]
     #[tactic(auto, unfolding(ws_steps::specs::Pipes::keep_chunk))]
     pub fn keep_chunk(&mut self, me: PipeId, p: &mut Promises, chunk: Value)
         requires job_room { HasJobRoom 1 p.old }
@@ -19,7 +28,10 @@ impl Pipe {
             ≡ rows.keep_chunk me chunk (acts_of self.old p.old fx) }
         ensures promise_room { p.new.room ≡ p.old.room }
     {
-        self.held = Some(chunk);
+        match self.held {
+            Some(_) => self.hold_another(chunk),
+            None => self.held = Some(chunk),
+        }
         p.micro(Micro::PipeWrite(me));
     }
 
