@@ -35,6 +35,7 @@ impl Transform {
     }
 
     /// The end of TransformStreamDefaultControllerEnqueue, after the readable half took the chunk.
+    #[inline(always)]
     #[tactic(auto, unfolding(ws_steps::specs::Transform::enqueued))]
     pub fn enqueued(&mut self, halves: &TransformHalves, p: &mut Promises)
         requires promise_room { HasPromiseRoom 1 p.old }

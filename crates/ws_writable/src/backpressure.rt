@@ -6,7 +6,6 @@ ghost use Rattle.ws_writable.specs.Seen.{acts_of};
 
 use crate::Writable;
 use ws_promise::Promises;
-use ws_steps::{WritableState, Writer};
 use ws_value::Plain;
 
 impl Writable {
@@ -15,35 +14,6 @@ impl Writable {
         ensures { result ≡ rows.has_backpressure self.now.slots }
     {
         self.queue.total() >= u128::from(self.hwm)
-    }
-
-    fn change_ready(&mut self, p: &mut Promises, writer: Writer, backpressure: bool)
-        requires promise_room { HasPromiseRoom 1 p.old }
-        ensures row { (fx : SeenAgenda) → acts_of self.new p.new fx
-            ≡ rows.change_ready writer (acts_of self.old p.old fx) backpressure }
-        ensures room { self.new.room ≡ self.old.room }
-        ensures promise_room { p.new.room ≡ p.old.room }
-    {
-        if backpressure {
-            let ready = p.fresh();
-            self.writer = Some(Writer { ready, ..writer });
-        } else {
-            p.fulfil(writer.ready, Plain::Undefined);
-        }
-    }
-
-    fn ready_for(&mut self, p: &mut Promises, backpressure: bool)
-        requires promise_room { HasPromiseRoom 1 p.old }
-        ensures row { (fx : SeenAgenda) → acts_of self.new p.new fx
-            ≡ rows.ready_for backpressure (acts_of self.old p.old fx) self.old.slots.writer }
-        ensures room { self.new.room ≡ self.old.room }
-        ensures promise_room { p.new.room ≡ p.old.room }
-    {
-        if let Some(writer) = self.writer {
-            if backpressure != self.backpressure {
-                self.change_ready(p, writer, backpressure);
-            }
-        }
     }
 
     /// WritableStreamUpdateBackpressure.
@@ -55,8 +25,17 @@ impl Writable {
         ensures room { self.new.room ≡ self.old.room }
         ensures promise_room { p.new.room ≡ p.old.room }
     {
-        self.ready_for(p, backpressure);
+        if backpressure == self.backpressure {
+            return;
+        }
         self.backpressure = backpressure;
+        if let Some(writer) = &mut self.writer {
+            if backpressure {
+                writer.ready = p.fresh();
+            } else {
+                p.fulfil(writer.ready, Plain::Undefined);
+            }
+        }
     }
 
     /// Brings the backpressure up to date, where the stream isn't closing and is writable.
