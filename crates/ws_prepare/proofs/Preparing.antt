@@ -96,7 +96,7 @@ fewer-room m n p less room =
     record { promises = omega (arith, less, a); jobs = omega (arith, less, b); events = omega (arith, less, d) }
 
 -- so many places each are enough for what the next call or job adds to the records that there are
-pub made-ready : (t : Tables) (base jobs turns : ℕ) → base ≡ base_places t → jobs ≡ base + t.waiting → turns ≡ jobs + t.waiting
+pub made-ready : (t : Tables) (base jobs turns : ℕ) → base_places t ≤ base → base + t.waiting ≤ jobs → jobs + t.waiting ≤ turns
     → IsMade t → HasTurns turns t → HasRoom base t.promises → HasJobRoom jobs t.promises → HasNotes base t → IsReady t
 made-ready t base jobs turns is-base is-jobs is-turns made has-turns room job-room notes =
     let caused = has-turns.caused in let others = has-turns.others in let under-way = has-turns.under_way in
@@ -130,7 +130,7 @@ prepared t ready records = record {
 }
 
 -- so many places each are enough for whatever is called next
-pub made-prepared : (t : Tables) (base jobs turns : ℕ) → base ≡ base_places t → jobs ≡ base + t.waiting → turns ≡ jobs + t.waiting
+pub made-prepared : (t : Tables) (base jobs turns : ℕ) → base_places t ≤ base → base + t.waiting ≤ jobs → jobs + t.waiting ≤ turns
     → IsMade t → HasTurns turns t → HasRoom base t.promises → HasJobRoom jobs t.promises → HasNotes base t → HasRecords t → IsPrepared t
 made-prepared t base jobs turns is-base is-jobs is-turns made has-turns room job-room notes records =
     prepared t (made-ready t base jobs turns is-base is-jobs is-turns made has-turns room job-room notes) records

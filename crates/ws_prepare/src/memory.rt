@@ -14,6 +14,9 @@ const PLACES_FOR_EACH: usize = 15;
 /// And how many for what any call or job takes by itself.
 const PLACES_FOR_ANY: usize = 34;
 
+/// At least so many are made at once, which serve eight of the jobs that each chunk meets, one after another.
+const LEAST_PLACES: usize = 230;
+
 /// Up to so many read requests, aborts and tees the places for them are reckoned without a look for an overflow.
 const FEW: usize = 0x7fff_ffff;
 
@@ -237,9 +240,10 @@ fn take_all(tables: &mut Tables) -> Result<(), NoMemory>
     prepare_streams(tables)?;
     prepare_signals(tables)?;
     copy_chunks(tables)?;
-    let Some(base) = base(tables) else {
+    let Some(least) = base(tables) else {
         return Err(NoMemory);
     };
+    let base = least.max(LEAST_PLACES);
     let Some(jobs) = base.checked_add(tables.waiting) else {
         return Err(NoMemory);
     };

@@ -15,10 +15,11 @@ returns-clause-ok c =
     let waits = ap (λ (t : Tables). t.waiting) agenda in
     let aborts = ap (λ (t : Tables). t.aborts) agenda in
     let base = c.in-Some.ensures in
+    let most = c.max-base.ensures in
     let jobs = c.in-Some-checked_add.ensures in
     let turns = c.in-Some-checked_add-2.ensures in
     let queue = c.in_ok-reserve_jobs.ensures in
-    made-prepared _ c.in-Some.base c.in-Some-checked_add.jobs c.in-Some-checked_add-2.turns (omega (arith, base, aborts, tees, many)) (omega (arith, jobs, waits)) (omega (arith, turns, waits))
+    made-prepared _ c.max-base.result c.in-Some-checked_add.jobs c.in-Some-checked_add-2.turns (omega (arith, base, most, aborts, tees, many)) (omega (arith, jobs, waits)) (omega (arith, turns, waits))
     (record {
       places =
           rw (c.in_ok-reserve-5.ensures.items ∙ (ap (λ (t : Tables). t.streams.items) agenda ∙ (ap (λ (t : Tables). t.streams.items) copies.tables ∙ ap (λ (t : Tables). t.streams.items) signals)))
