@@ -1,7 +1,7 @@
 -- Effects that come behind others.
-use Rattle.std.proofs.Common.{◌≡◌, ◌∙◌, ◌+◌, Bool, true, List, [], ◌∷◌, ◌++◌, sym, ap, subst, append_assoc, length-append, arith}
+use Rattle.std.proofs.Common.{◌≡◌, ◌+◌, Bool, true, List, [], ◌∷◌, ◌++◌, sym, subst, append_assoc, length-append, arith}
 use Rattle.std.proofs.lemmas.List.{append-nil}
-use Rattle.ws_promise.specs.Seen.{SeenAgenda, HasEffectRoom}
+use Rattle.ws_promise.specs.Seen.{HasEffectRoom}
 use Rattle.ws_value.specs.declared.ids.StreamId.{StreamId}
 use Rattle.ws_steps.specs.declared.effects.Effect.{Effect}
 use Rattle.ws_steps.specs.declared.effects.Effect.TheVariants.{PullAlgorithm}
@@ -14,7 +14,7 @@ use Rattle.ws_effects.specs.Performing.{Performs}
 use Rattle.ws_effects.proofs.Fits.{within-less}
 use Rattle.ws_effects.proofs.Streams.{each-one}
 use Rattle.ws_effects.proofs.Turns.{rooms-less}
-use Rattle.ws_direct.specs.Directly.{Reaches, IsReadyFor, IsReadyAfter, PerformsAfter, PerformsDirectly, pulls_told}
+use Rattle.ws_direct.specs.Directly.{Reaches, IsReadyFor, IsReadyAfter, PerformsAfter, PerformsDirectly, leaving, pulls_told}
 use Rattle.ws_direct.proofs.Reaching.{beside, by, left, stays, then}
 
 copied-front : (xs ys : List Effect) (t : Tables) → AreCopied (xs ++ ys) t → AreCopied xs t
@@ -82,15 +82,12 @@ ready-now es t quiet ready = record { quiet = quiet; room = subst (λ xs. HasRoo
 
 -- and else caused
 
-pub after-some : (e : Effect) (t t' : Tables) (fx : SeenAgenda) → IsReadyAfter (e ∷ []) t → fx ≡ record t.caused { effects = t.caused.effects ++ e ∷ [] } → t' ≡ record t { caused = fx }
-    → PerformsAfter (e ∷ []) t t'
-after-some e t t' fx ready pushed is =
-    left (t.caused.effects ++ e ∷ []) t t' (is ∙ ap (λ (a : SeenAgenda). record t { caused = a }) pushed) ready.kept
+pub after-some : (e : Effect) (t t' : Tables) → IsReadyAfter (e ∷ []) t → t' ≡ leaving e t → PerformsAfter (e ∷ []) t t'
+after-some e t t' ready is = left (t.caused.effects ++ e ∷ []) t t' is ready.kept
 
-pub pull-some : (i : StreamId) (pulls : Bool) (t t' : Tables) (fx : SeenAgenda) → pulls ≡ true → IsReadyAfter (pulls_told pulls i) t → fx ≡ record t.caused { effects = t.caused.effects ++ PullAlgorithm i ∷ [] }
-    → t' ≡ record t { caused = fx } → PerformsAfter (pulls_told pulls i) t t'
-pull-some i pulls t t' fx holds ready pushed is =
-    subst (λ b. PerformsAfter (pulls_told b i) t t') (sym holds) (after-some (PullAlgorithm i) t t' fx (subst (λ b. IsReadyAfter (pulls_told b i) t) holds ready) pushed is)
+pub pull-some : (i : StreamId) (pulls : Bool) (t t' : Tables) → pulls ≡ true → IsReadyAfter (pulls_told pulls i) t → t' ≡ leaving (PullAlgorithm i) t → PerformsAfter (pulls_told pulls i) t t'
+pull-some i pulls t t' holds ready is =
+    subst (λ b. PerformsAfter (pulls_told b i) t t') (sym holds) (after-some (PullAlgorithm i) t t' (subst (λ b. IsReadyAfter (pulls_told b i) t) holds ready) is)
 
 pub one-more : (e : Effect) (t : Tables) → IsReadyAfter (e ∷ []) t → HasEffectRoom 1 t.caused
 one-more e t ready =

@@ -13,7 +13,7 @@ use Rattle.ws_effects.specs.Performing.{Performs}
 use Rattle.ws_effects.proofs.Fits.{within-less}
 use Rattle.ws_effects.proofs.Kept.{kept_by}
 use Rattle.ws_effects.proofs.Turns.{rooms-less, next-room, next-turns}
-use Rattle.ws_direct.specs.Directly.{Reaches, IsReadyFor, PerformsDirectly}
+use Rattle.ws_direct.specs.Directly.{Reaches, IsReadyFor, PerformsDirectly, leaving}
 
 abbrev pub no-effects : SeenAgenda
 no-effects = record { effects = []; capacity = 0 }
@@ -202,11 +202,8 @@ pub effect-room : (n : ℕ) (es : List Effect) (t : Tables) → n ≤ 6 → IsRe
 effect-room n es t few ready = let none = ap length ready.quiet in let h = ready.room.caused in omega (arith, few, none, h)
 
 -- one effect is caused alone
-pub one-left : (e : Effect) (t t' : Tables) (fx : SeenAgenda) → IsReadyFor (e ∷ []) t → fx ≡ record t.caused { effects = t.caused.effects ++ e ∷ [] } → t' ≡ record t { caused = fx }
-    → PerformsDirectly (e ∷ []) t t'
-one-left e t t' fx ready pushed is =
-    left (e ∷ []) t t'
-    (is ∙ (ap (λ (a : SeenAgenda). record t { caused = a }) pushed ∙ ap (λ xs. record t { caused = record t.caused { effects = xs ++ e ∷ [] } }) ready.quiet)) ready.kept
+pub one-left : (e : Effect) (t t' : Tables) → IsReadyFor (e ∷ []) t → t' ≡ leaving e t → PerformsDirectly (e ∷ []) t t'
+one-left e t t' ready is = left (e ∷ []) t t' (is ∙ ap (λ xs. record t { caused = record t.caused { effects = xs ++ e ∷ [] } }) ready.quiet) ready.kept
 
 -- what is caused is what the row causes
 pub did-so : (e : Effect) (t t' : Tables) → IsReadyFor (e ∷ []) t → Performs e t t' → KeepsRecords t t' → PerformsDirectly (e ∷ []) t t'

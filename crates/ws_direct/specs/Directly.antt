@@ -55,6 +55,10 @@ pub record IsReadyAfter (es : List Effect) (t : Tables) : Type 0 where
 abbrev pub PerformsAfter : List Effect → Tables → Tables → Type 0
 PerformsAfter es t t' = Reaches (t.caused.effects ++ es) t t'.caused.effects t'
 
+-- an effect is caused
+abbrev pub leaving : Effect → Tables → Tables
+leaving e t = record t { caused = record t.caused { effects = t.caused.effects ++ e ∷ [] } }
+
 -- a chunk is handed on to a transform stream
 abbrev pub hands_on : StreamId → TransformId → PromiseId → Effect
 hands_on i t promise = Writable i (HandOn (ToTransform t promise))

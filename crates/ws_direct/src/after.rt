@@ -1,29 +1,61 @@
 //! What comes behind effects that may be left: it is performed where none is, and else it is caused behind them.
-ghost use Rattle.std.specs.Prelude.{[], ◌∷◌};
+ghost use Rattle.std.specs.Prelude.{◌<◌, ◌^◌, [], ◌∷◌};
 ghost use Rattle.ws_steps.specs.declared.effects.Effect.TheVariants as effect;
 ghost use Rattle.ws_steps.specs.declared.effects.Gift.TheVariants as gift;
+ghost use Rattle.ws_steps.specs.declared.effects.Use.TheVariants as usage;
 ghost use Rattle.ws_steps.specs.declared.pipes.PipeOperation.TheVariants as pipe;
+ghost use Rattle.ws_steps.specs.declared.promises.Step.TheVariants as step;
 ghost use Rattle.ws_steps.specs.declared.transform.TransformOperation.TheVariants as transform;
+ghost use Rattle.ws_steps.specs.Pipes.{reacts};
 ghost use Rattle.ws_direct.specs.Directly.{IsReadyAfter, PerformsAfter, pulls_told};
 
 use crate::enqueues::enqueued;
+use crate::left::{
+    leave_chunk, leave_enqueued, leave_look, leave_pull, leave_resolve, leave_write, leave_wrote,
+};
 use crate::pipes::go_on;
-use crate::promises::use_promise;
+use crate::promises::react;
 use crate::pulls::pull;
 use crate::reads::hand;
-use ws_steps::{Effect, Gift, PipeOperation, ReadRequest, TransformId, TransformOperation, Use};
+use ws_jobs::Short;
+use ws_steps::{ReadRequest, TransformId};
 use ws_tables::Tables;
 use ws_value::{PipeId, PromiseId, StreamId, Value};
 
 #[inline(always)]
-pub(crate) fn use_after(tables: &mut Tables, promise: PromiseId, u: &Use)
-    requires { IsReadyAfter (effect.Give (gift.This promise) u.now ∷ []) tables.old }
-    ensures { PerformsAfter (effect.Give (gift.This promise) u.now ∷ []) tables.old tables.new }
+pub(crate) fn wrote_after(tables: &mut Tables, promise: PromiseId, p: PipeId)
+    requires small { p.0 < 2 ^ 64 }
+    requires ready { IsReadyAfter (reacts promise (step.PipeWrote p) ∷ []) tables.old }
+    ensures { PerformsAfter (reacts promise (step.PipeWrote p) ∷ []) tables.old tables.new }
 {
     if tables.caused.len() == 0 {
-        use_promise(tables, promise, u);
+        react(tables, promise, Short::PipeWrote(p.0 as u64));
     } else {
-        tables.caused.push(Effect::Give(Gift::This(promise), *u));
+        leave_wrote(tables, promise, p);
+    }
+}
+
+#[inline(always)]
+pub(crate) fn write_after(tables: &mut Tables, promise: PromiseId, i: StreamId)
+    requires { IsReadyAfter (reacts promise (step.WritableWrite i) ∷ []) tables.old }
+    ensures { PerformsAfter (reacts promise (step.WritableWrite i) ∷ []) tables.old tables.new }
+{
+    if tables.caused.len() == 0 {
+        react(tables, promise, Short::Wrote(i));
+    } else {
+        leave_write(tables, promise, i);
+    }
+}
+
+#[inline(always)]
+pub(crate) fn resolve_after(tables: &mut Tables, own: PromiseId, promise: PromiseId)
+    requires { IsReadyAfter (effect.Give (gift.This own) (usage.Resolve promise) ∷ []) tables.old }
+    ensures { PerformsAfter (effect.Give (gift.This own) (usage.Resolve promise) ∷ []) tables.old tables.new }
+{
+    if tables.caused.len() == 0 {
+        tables.promises.follow(promise, own);
+    } else {
+        leave_resolve(tables, own, promise);
     }
 }
 
@@ -35,7 +67,7 @@ pub(crate) fn go_on_after(tables: &mut Tables, p: PipeId)
     if tables.caused.len() == 0 {
         go_on(tables, p);
     } else {
-        tables.caused.push(Effect::Pipe(p, PipeOperation::GoOn));
+        leave_look(tables, p);
     }
 }
 
@@ -50,7 +82,7 @@ pub(crate) fn pull_after(tables: &mut Tables, i: StreamId, pulls: bool)
     if tables.caused.len() == 0 {
         pull(tables, i);
     } else {
-        tables.caused.push(Effect::PullAlgorithm(i));
+        leave_pull(tables, i);
     }
 }
 
@@ -62,7 +94,7 @@ pub(crate) fn hand_after(tables: &mut Tables, i: StreamId, request: ReadRequest,
     if tables.caused.len() == 0 {
         hand(tables, i, request, chunk);
     } else {
-        tables.caused.push(Effect::ChunkSteps(i, request, chunk));
+        leave_chunk(tables, i, request, chunk);
     }
 }
 
@@ -74,8 +106,6 @@ pub(crate) fn enqueued_after(tables: &mut Tables, t: TransformId)
     if tables.caused.len() == 0 {
         enqueued(tables, t);
     } else {
-        tables
-            .caused
-            .push(Effect::Transform(t, TransformOperation::Enqueued));
+        leave_enqueued(tables, t);
     }
 }

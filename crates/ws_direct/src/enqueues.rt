@@ -7,10 +7,11 @@ ghost use Rattle.ws_direct.specs.Directly.{IsReadyFor, PerformsDirectly, accepte
 
 use crate::after::{enqueued_after, pull_after};
 use crate::growth::note_growth;
+use crate::left::leave_enqueue;
 use crate::pulls::pull_where;
 use crate::reads::{hand, is_going};
 use ws_effects::transform_halves;
-use ws_steps::{Effect, ReadRequest, ReadableOperation, TransformId};
+use ws_steps::{ReadRequest, TransformId};
 use ws_tables::{LIST_PLACES, Stream, Tables};
 use ws_value::{StreamId, Value};
 
@@ -35,9 +36,7 @@ fn accept(tables: &mut Tables, i: StreamId, chunk: Value)
     ensures { PerformsDirectly (effect.Readable i (readable.Enqueue chunk) ∷ []) tables.old tables.new }
 {
     if !is_going(tables, i) {
-        tables
-            .caused
-            .push(Effect::Readable(i, ReadableOperation::Enqueue(chunk)));
+        leave_enqueue(tables, i, chunk);
         return;
     }
     match &mut tables.streams[i.0 as usize] {

@@ -6,6 +6,7 @@
 mod after;
 mod enqueues;
 mod growth;
+mod left;
 mod pipes;
 mod promises;
 mod pulls;

@@ -7,13 +7,14 @@ ghost use Rattle.ws_steps.specs.declared.pipes.PipeOperation.TheVariants as pipe
 ghost use Rattle.ws_tables.specs.View.{stream_of};
 ghost use Rattle.ws_direct.specs.Directly.{AreOpen, IsReadyFor, PerformsDirectly, Reaches, looks_told};
 
-use crate::after::{go_on_after, use_after};
-use crate::promises::use_promise;
+use crate::after::{go_on_after, wrote_after};
+use crate::promises::react;
 use crate::reads::read;
 use crate::writes::write;
 use ws_effects::pipe_ends;
+use ws_jobs::Short;
 use ws_pipe::{PipeLook, PipeNext};
-use ws_steps::{ReadRequest, ReadableState, Step, Use, WritableState};
+use ws_steps::{ReadRequest, ReadableState, WritableState};
 use ws_tables::{Stream, Tables};
 use ws_value::{PipeId, PromiseId, StreamId};
 
@@ -94,7 +95,7 @@ fn look(tables: &mut Tables, p: PipeId, look: PipeLook)
         PipeNext::Nothing => {}
         PipeNext::Read(source) => read(tables, source, ReadRequest::Pipe(p)),
         PipeNext::Wait(ready) => {
-            use_promise(tables, ready, &Use::React(Step::PipeReady(p), None));
+            react(tables, ready, Short::PipeReady(p.0 as u64));
         }
     }
 }
@@ -138,6 +139,6 @@ pub fn pipe_writes(tables: &mut Tables, p: PipeId)
         return;
     };
     write(tables, dest, chunk, promise);
-    use_after(tables, promise, &Use::React(Step::PipeWrote(p), None));
+    wrote_after(tables, promise, p);
     go_on_after(tables, p);
 }

@@ -1,20 +1,24 @@
 //! Pulls.
-ghost use Rattle.std.specs.Prelude.{[], ◌∷◌, Ok};
+ghost use Rattle.std.specs.Prelude.{[], ◌∷◌, None, Ok};
 ghost use Rattle.ws_value.specs.declared.value.Plain.TheVariants.{Undefined};
 ghost use Rattle.ws_steps.specs.declared.effects.Effect.TheVariants as effect;
+ghost use Rattle.ws_steps.specs.declared.effects.Use.TheVariants as usage;
+ghost use Rattle.ws_steps.specs.declared.promises.Step.TheVariants as step;
 ghost use Rattle.ws_steps.specs.declared.readable.ReadableOperation.TheVariants as readable;
 ghost use Rattle.ws_steps.specs.declared.transform.TransformOperation.TheVariants as transform;
 ghost use Rattle.ws_direct.specs.Directly.{IsReadyFor, PerformsDirectly, pulls_told};
 
-use crate::promises::use_promise;
-use ws_steps::{Effect, Owner, ReadableOperation, Step, TransformId, Use};
+use crate::left::{leave_pull, leave_pulled};
+use crate::promises::react;
+use ws_jobs::Short;
+use ws_steps::{Owner, TransformId};
 use ws_tables::{Stream, Tables};
-use ws_value::{Plain, StreamId};
+use ws_value::StreamId;
 
 /// TransformStreamDefaultSourcePullAlgorithm.
-fn source_pull(tables: &mut Tables, t: TransformId, u: &Use)
-    requires { IsReadyFor (effect.Transform t (transform.SourcePull u.now) ∷ []) tables.old }
-    ensures { PerformsDirectly (effect.Transform t (transform.SourcePull u.now) ∷ []) tables.old tables.new }
+fn source_pull(tables: &mut Tables, t: TransformId, i: StreamId)
+    requires { IsReadyFor (effect.Transform t (transform.SourcePull (usage.React (step.ReadablePull i) None)) ∷ []) tables.old }
+    ensures { PerformsDirectly (effect.Transform t (transform.SourcePull (usage.React (step.ReadablePull i) None)) ∷ []) tables.old tables.new }
 {
     if tables.transforms.len() <= t.0 as usize {
         return;
@@ -22,7 +26,7 @@ fn source_pull(tables: &mut Tables, t: TransformId, u: &Use)
     let transform = &mut tables.transforms[t.0 as usize];
     transform.set_backpressure(&mut tables.promises, false);
     let change = transform.change();
-    use_promise(tables, change, u);
+    react(tables, change, Short::Pulled(i));
 }
 
 /// The pull algorithm, by whose it is.
@@ -31,8 +35,8 @@ pub(crate) fn pull(tables: &mut Tables, i: StreamId)
     ensures { PerformsDirectly (effect.PullAlgorithm i ∷ []) tables.old tables.new }
 {
     match tables.owner(i) {
-        Owner::HalfOf(t) => source_pull(tables, t, &Use::React(Step::ReadablePull(i), None)),
-        _ => tables.caused.push(Effect::PullAlgorithm(i)),
+        Owner::HalfOf(t) => source_pull(tables, t, i),
+        _ => leave_pull(tables, i),
     }
 }
 
@@ -53,8 +57,7 @@ pub fn pulled(tables: &mut Tables, i: StreamId)
     ensures { PerformsDirectly (effect.Readable i (readable.PullSettled (Ok Undefined)) ∷ []) tables.old tables.new }
 {
     if !tables.has_readable(i) {
-        let operation = ReadableOperation::PullSettled(Ok(Plain::Undefined));
-        tables.caused.push(Effect::Readable(i, operation));
+        leave_pulled(tables, i);
         return;
     }
     match &mut tables.streams[i.0 as usize] {

@@ -10,8 +10,9 @@ ghost use Rattle.ws_direct.specs.Directly.{IsReadyFor, PerformsDirectly, given, 
 
 use crate::after::hand_after;
 use crate::growth::note_growth;
+use crate::left::{leave_chunk, leave_read};
 use crate::pulls::pull_where;
-use ws_steps::{Effect, ReadRequest, ReadableOperation};
+use ws_steps::ReadRequest;
 use ws_tables::{LIST_PLACES, Stream, Tables};
 use ws_value::{PipeId, StreamId, Value};
 
@@ -34,7 +35,7 @@ pub(crate) fn hand(tables: &mut Tables, i: StreamId, request: ReadRequest, chunk
 {
     match request {
         ReadRequest::Pipe(p) => keep_chunk(tables, p, chunk),
-        _ => tables.caused.push(Effect::ChunkSteps(i, request, chunk)),
+        _ => leave_chunk(tables, i, request, chunk),
     }
 }
 
@@ -71,9 +72,7 @@ pub(crate) fn read(tables: &mut Tables, i: StreamId, request: ReadRequest)
     ensures { PerformsDirectly (effect.Readable i (readable.Read request) ∷ []) tables.old tables.new }
 {
     if !is_going(tables, i) {
-        tables
-            .caused
-            .push(Effect::Readable(i, ReadableOperation::Read(request)));
+        leave_read(tables, i, request);
         return;
     }
     match &mut tables.streams[i.0 as usize] {

@@ -1,10 +1,11 @@
 //! Writes, and the write algorithms.
-ghost use Rattle.std.specs.Prelude.{◌≡◌, [], ◌∷◌, Ok};
+ghost use Rattle.std.specs.Prelude.{◌≡◌, ◌<◌, ◌^◌, [], ◌∷◌, None, Ok};
 ghost use Rattle.ws_value.specs.declared.value.Plain.TheVariants.{Undefined};
 ghost use Rattle.ws_steps.specs.Slots.{writable_at};
 ghost use Rattle.ws_steps.specs.Writable as writables;
 ghost use Rattle.ws_steps.specs.declared.effects.Effect.TheVariants as effect;
-ghost use Rattle.ws_steps.specs.declared.effects.Gift.TheVariants as gift;
+ghost use Rattle.ws_steps.specs.declared.effects.Use.TheVariants as usage;
+ghost use Rattle.ws_steps.specs.declared.promises.Step.TheVariants as step;
 ghost use Rattle.ws_steps.specs.declared.transform.Taker.{Taker};
 ghost use Rattle.ws_steps.specs.declared.transform.Taker.TheVariants as taker_of;
 ghost use Rattle.ws_steps.specs.declared.transform.TransformOperation.TheVariants as transform;
@@ -13,12 +14,12 @@ ghost use Rattle.ws_tables.specs.Room.{IsKept};
 ghost use Rattle.ws_tables.specs.View.{slots_of};
 ghost use Rattle.ws_direct.specs.Directly.{IsReadyFor, PerformsDirectly, Reaches, handed, hands_on};
 
-use crate::after::use_after;
+use crate::after::{resolve_after, write_after};
 use crate::growth::note_growth;
-use crate::promises::{call_host, use_promise};
-use ws_steps::{
-    Effect, HostCall, Kind, Owner, Step, TransformId, TransformOperation, Use, WritableState,
-};
+use crate::left::{leave_transform, leave_write_algorithm, leave_write_goes_on};
+use crate::promises::{call_host, react};
+use ws_jobs::Short;
+use ws_steps::{HostCall, Kind, Owner, TransformId, WritableState};
 use ws_tables::{LIST_PLACES, Stream, Tables};
 use ws_value::{PromiseId, StreamId, Value};
 
@@ -41,7 +42,8 @@ fn chunk_of(tables: &mut Tables, i: StreamId) -> Option<Value>
 
 /// The transform algorithm, where it is the host's.
 fn transform_chunk(tables: &mut Tables, t: TransformId, chunk: Value, promise: PromiseId)
-    requires { IsReadyFor (effect.Transform t (transform.TransformChunk chunk promise) ∷ []) tables.old }
+    requires small { promise.0 < 2 ^ 64 }
+    requires ready { IsReadyFor (effect.Transform t (transform.TransformChunk chunk promise) ∷ []) tables.old }
     ensures { PerformsDirectly (effect.Transform t (transform.TransformChunk chunk promise) ∷ []) tables.old tables.new }
 {
     if tables.transforms.len() <= t.0 as usize {
@@ -51,23 +53,17 @@ fn transform_chunk(tables: &mut Tables, t: TransformId, chunk: Value, promise: P
     match transform.kind() {
         Kind::Host => {
             let call = HostCall::Transform(transform.readable(), chunk);
-            call_host(
-                tables,
-                call,
-                &Use::React(Step::Transformed(t), Some(promise)),
-            );
+            call_host(tables, call, Short::Transformed(t, promise.0 as u64));
         }
-        Kind::Identity => {
-            let operation = TransformOperation::TransformChunk(chunk, promise);
-            tables.caused.push(Effect::Transform(t, operation));
-        }
+        Kind::Identity => leave_transform(tables, t, chunk, promise),
     }
 }
 
 /// A chunk is handed on to a transform stream.
 #[inline(always)]
 fn hand_on(tables: &mut Tables, i: StreamId, t: TransformId, promise: PromiseId)
-    requires { IsReadyFor (hands_on i t promise ∷ []) tables.old }
+    requires small { promise.0 < 2 ^ 64 }
+    requires ready { IsReadyFor (hands_on i t promise ∷ []) tables.old }
     ensures { PerformsDirectly (hands_on i t promise ∷ []) tables.old tables.new }
 {
     if let Some(chunk) = chunk_of(tables, i) {
@@ -75,19 +71,10 @@ fn hand_on(tables: &mut Tables, i: StreamId, t: TransformId, promise: PromiseId)
     }
 }
 
-/// TransformStreamDefaultControllerPerformTransform, with the chunk that is first in the queue of the writable half.
-fn perform_transform(tables: &mut Tables, i: StreamId, t: TransformId, promise: PromiseId, u: &Use)
-    requires { IsReadyFor (hands_on i t promise ∷ effect.Give (gift.This promise) u.now ∷ []) tables.old }
-    ensures { PerformsDirectly (hands_on i t promise ∷ effect.Give (gift.This promise) u.now ∷ []) tables.old tables.new }
-{
-    hand_on(tables, i, t, promise);
-    use_after(tables, promise, u);
-}
-
 /// TransformStreamDefaultSinkWriteAlgorithm.
-fn sink_write(tables: &mut Tables, t: TransformId, u: &Use)
-    requires { IsReadyFor (effect.Transform t (transform.SinkWrite u.now) ∷ []) tables.old }
-    ensures { PerformsDirectly (effect.Transform t (transform.SinkWrite u.now) ∷ []) tables.old tables.new }
+fn sink_write(tables: &mut Tables, t: TransformId, i: StreamId)
+    requires { IsReadyFor (effect.Transform t (transform.SinkWrite (usage.React (step.WritableWrite i) None)) ∷ []) tables.old }
+    ensures { PerformsDirectly (effect.Transform t (transform.SinkWrite (usage.React (step.WritableWrite i) None)) ∷ []) tables.old tables.new }
 {
     if tables.transforms.len() <= t.0 as usize {
         return;
@@ -98,14 +85,11 @@ fn sink_write(tables: &mut Tables, t: TransformId, u: &Use)
     let waits = transform.has_backpressure();
     let promise = tables.promises.fresh();
     if waits {
-        use_promise(
-            tables,
-            change,
-            &Use::React(Step::TransformChanged(t, promise), None),
-        );
-        use_promise(tables, promise, u);
+        react(tables, change, Short::Changed(t, promise.0 as u64));
+        react(tables, promise, Short::Wrote(i));
     } else {
-        perform_transform(tables, writable, t, promise, u);
+        hand_on(tables, writable, t, promise);
+        write_after(tables, promise, i);
     }
 }
 
@@ -116,8 +100,7 @@ fn write_to_host(tables: &mut Tables, i: StreamId)
     ensures { PerformsDirectly (effect.Writable i (writable.HandOn taker_of.ToHost) ∷ []) tables.old tables.new }
 {
     if let Some(chunk) = chunk_of(tables, i) {
-        let u = Use::React(Step::WritableWrite(i), None);
-        call_host(tables, HostCall::Write(i, chunk), &u);
+        call_host(tables, HostCall::Write(i, chunk), Short::Wrote(i));
     }
 }
 
@@ -127,9 +110,9 @@ fn write_algorithm(tables: &mut Tables, i: StreamId)
     ensures { PerformsDirectly (effect.WriteAlgorithm i ∷ []) tables.old tables.new }
 {
     match tables.owner(i) {
-        Owner::HalfOf(t) => sink_write(tables, t, &Use::React(Step::WritableWrite(i), None)),
+        Owner::HalfOf(t) => sink_write(tables, t, i),
         Owner::Host => write_to_host(tables, i),
-        _ => tables.caused.push(Effect::WriteAlgorithm(i)),
+        _ => leave_write_algorithm(tables, i),
     }
 }
 
@@ -204,10 +187,10 @@ pub fn write_goes_on(tables: &mut Tables, t: TransformId, promise: PromiseId)
     }
     let writable = tables.transforms[t.0 as usize].writable();
     if is_erroring(tables, writable) {
-        let operation = TransformOperation::WriteGoesOn(promise);
-        tables.caused.push(Effect::Transform(t, operation));
+        leave_write_goes_on(tables, t, promise);
         return;
     }
     let own = tables.promises.fresh();
-    perform_transform(tables, writable, t, own, &Use::Resolve(promise));
+    hand_on(tables, writable, t, own);
+    resolve_after(tables, own, promise);
 }

@@ -1,4 +1,4 @@
-use Rattle.std.proofs.Common.{◌∙◌, [], ◌∷◌, refl, sym}
+use Rattle.std.proofs.Common.{◌∙◌, [], ◌∷◌, sym}
 use Rattle.ws_steps.specs.declared.effects.Effect.TheVariants.{Transform}
 use Rattle.ws_steps.specs.declared.transform.TransformOperation.TheVariants.{Enqueued}
 use Rattle.ws_tables.proofs.Loops.{empty}
@@ -12,8 +12,8 @@ pub returns-then-len-eq0 : goal.returns-then-len-eq0
 returns-then-len-eq0 c =
     after-none (Transform c.args.t Enqueued ∷ []) c.args.tables.now c.enqueued.new.tables (empty c.args.tables.now.caused.effects (sym c.len.ensures ∙ c.if-len-eq0.true)) c.enqueued.ensures
 
-pub push-requires : goal.push-requires
-push-requires c = one-more (Transform c.args.t Enqueued) c.args.tables.now c.requires
+pub leave_enqueued-requires : goal.leave_enqueued-requires
+leave_enqueued-requires c = one-more (Transform c.args.t Enqueued) c.args.tables.now c.requires
 
 pub returns-else-len-eq0 : goal.returns-else-len-eq0
-returns-else-len-eq0 c = after-some (Transform c.args.t Enqueued) c.args.tables.now _ c.push.new.self c.requires c.push.ensures refl
+returns-else-len-eq0 c = after-some (Transform c.args.t Enqueued) c.args.tables.now c.leave_enqueued.new.tables c.requires c.leave_enqueued.ensures

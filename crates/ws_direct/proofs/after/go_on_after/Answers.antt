@@ -1,4 +1,4 @@
-use Rattle.std.proofs.Common.{◌∙◌, [], ◌∷◌, refl, sym}
+use Rattle.std.proofs.Common.{◌∙◌, [], ◌∷◌, sym}
 use Rattle.ws_steps.specs.declared.effects.Effect.TheVariants.{Pipe}
 use Rattle.ws_steps.specs.declared.pipes.PipeOperation.TheVariants.{GoOn}
 use Rattle.ws_tables.proofs.Loops.{empty}
@@ -12,8 +12,8 @@ pub returns-then-len-eq0 : goal.returns-then-len-eq0
 returns-then-len-eq0 c =
     after-none (Pipe c.args.p GoOn ∷ []) c.args.tables.now c.go_on.new.tables (empty c.args.tables.now.caused.effects (sym c.len.ensures ∙ c.if-len-eq0.true)) c.go_on.ensures
 
-pub push-requires : goal.push-requires
-push-requires c = one-more (Pipe c.args.p GoOn) c.args.tables.now c.requires
+pub leave_look-requires : goal.leave_look-requires
+leave_look-requires c = one-more (Pipe c.args.p GoOn) c.args.tables.now c.requires
 
 pub returns-else-len-eq0 : goal.returns-else-len-eq0
-returns-else-len-eq0 c = after-some (Pipe c.args.p GoOn) c.args.tables.now _ c.push.new.self c.requires c.push.ensures refl
+returns-else-len-eq0 c = after-some (Pipe c.args.p GoOn) c.args.tables.now c.leave_look.new.tables c.requires c.leave_look.ensures

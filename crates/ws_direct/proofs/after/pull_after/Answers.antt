@@ -1,4 +1,4 @@
-use Rattle.std.proofs.Common.{◌∙◌, [], ◌∷◌, refl, sym, subst}
+use Rattle.std.proofs.Common.{◌∙◌, [], ◌∷◌, sym, subst}
 use Rattle.ws_steps.specs.declared.effects.Effect.TheVariants.{PullAlgorithm}
 use Rattle.ws_tables.proofs.Loops.{empty}
 use Rattle.ws_direct.specs.Directly.{IsReadyAfter, PerformsAfter, pulls_told}
@@ -20,8 +20,8 @@ returns-then-len-eq0 c =
     subst (λ b. PerformsAfter (pulls_told b c.args.i) c.args.tables.now c.pull.new.tables) (sym c.if-not-pulls.false)
     (after-none (PullAlgorithm c.args.i ∷ []) c.args.tables.now c.pull.new.tables (empty c.args.tables.now.caused.effects (sym c.len.ensures ∙ c.if-len-eq0.true)) c.pull.ensures)
 
-pub push-requires : goal.push-requires
-push-requires c = one-more (PullAlgorithm c.args.i) c.args.tables.now (subst (λ b. IsReadyAfter (pulls_told b c.args.i) c.args.tables.now) c.if-not-pulls.false c.requires)
+pub leave_pull-requires : goal.leave_pull-requires
+leave_pull-requires c = one-more (PullAlgorithm c.args.i) c.args.tables.now (subst (λ b. IsReadyAfter (pulls_told b c.args.i) c.args.tables.now) c.if-not-pulls.false c.requires)
 
 pub returns-else-len-eq0 : goal.returns-else-len-eq0
-returns-else-len-eq0 c = pull-some c.args.i c.args.pulls c.args.tables.now _ c.push.new.self c.if-not-pulls.false c.requires c.push.ensures refl
+returns-else-len-eq0 c = pull-some c.args.i c.args.pulls c.args.tables.now c.leave_pull.new.tables c.if-not-pulls.false c.requires c.leave_pull.ensures

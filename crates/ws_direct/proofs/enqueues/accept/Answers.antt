@@ -14,11 +14,11 @@ use Rattle.ws_direct.proofs.Told.{and-first, going-here, accept-told}
 use Rattle.ws_direct.proofs.Streams.{may-note, noted-put, readable-on, read-took}
 use Rattle.ws_direct.proofs.enqueues.accept.Goals as goal
 
-pub push-requires : goal.push-requires
-push-requires c = effect-room 1 _ c.args.tables.now (omega arith) c.requires
+pub leave_enqueue-requires : goal.leave_enqueue-requires
+leave_enqueue-requires c = effect-room 1 _ c.args.tables.now (omega arith) c.requires
 
 pub returns-then-not-is_going : goal.returns-then-not-is_going
-returns-then-not-is_going c = one-left (ReadableEffect c.args.i (Enqueue c.args.chunk)) c.args.tables.now _ c.push.new.self c.requires c.push.ensures refl
+returns-then-not-is_going c = one-left (ReadableEffect c.args.i (Enqueue c.args.chunk)) c.args.tables.now c.leave_enqueue.new.tables c.requires c.leave_enqueue.ensures
 
 pub index_mut-requires : goal.index_mut-requires
 index_mut-requires c =

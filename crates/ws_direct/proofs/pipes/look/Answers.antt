@@ -26,8 +26,8 @@ returns-in-Read c =
     (subst (λ n. Reaches (Pipe c.args.p (look_of c.args.look) ∷ []) c.args.tables.now (looks_told c.args.p c.look_at_ends.new.tables.caused.effects n) c.look_at_ends.new.tables) c.in-Read.is c.look_at_ends.ensures.told)
     c.read.ensures
 
-pub use_promise-requires : goal.use_promise-requires
-use_promise-requires c =
+pub react-requires-clause-ready : goal.react-requires-clause-ready
+react-requires-clause-ready c =
     next-ready (Pipe c.args.p (look_of c.args.look)) (Give (This c.in-Wait.ready) (React (PipeReady c.args.p) None)) [] c.args.tables.now _ c.requires.room
     (subst (λ n. Reaches (Pipe c.args.p (look_of c.args.look) ∷ []) c.args.tables.now (looks_told c.args.p c.look_at_ends.new.tables.caused.effects n) c.look_at_ends.new.tables) c.in-Wait.is c.look_at_ends.ensures.told)
     (c.look_at_ends.ensures.quiet (ap is_next c.in-Wait.is))
@@ -36,7 +36,7 @@ pub returns-in-Wait : goal.returns-in-Wait
 returns-in-Wait c =
     then _ (Give (This c.in-Wait.ready) (React (PipeReady c.args.p) None) ∷ []) _ c.args.tables.now _ _
     (subst (λ n. Reaches (Pipe c.args.p (look_of c.args.look) ∷ []) c.args.tables.now (looks_told c.args.p c.look_at_ends.new.tables.caused.effects n) c.look_at_ends.new.tables) c.in-Wait.is c.look_at_ends.ensures.told)
-    c.use_promise.ensures.performed
+    c.react.ensures.performed
 
 pub returns-in-Nothing : goal.returns-in-Nothing
 returns-in-Nothing c =

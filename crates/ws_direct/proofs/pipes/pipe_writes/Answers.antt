@@ -55,8 +55,8 @@ write-requires c =
     c.requires.kept)
     c.requires.quiet
 
-pub use_after-requires : goal.use_after-requires
-use_after-requires c =
+pub wrote_after-requires-clause-ready : goal.wrote_after-requires-clause-ready
+wrote_after-requires-clause-ready c =
     let old = c.args.tables.now in
     let x = c.index_mut-pipe.result.now in
     let w : Effect = Writable c.dest-dest.result (Write c.in-Some.chunk c.in-Some.promise) in
@@ -93,7 +93,7 @@ go_on_after-requires c =
     let w : Effect = Writable c.dest-dest.result (Write c.in-Some.chunk c.in-Some.promise) in
     let g : Effect = Give (This c.in-Some.promise) (React (PipeWrote c.args.p) None) in
     let h : Effect = Pipe c.args.p GoOn in
-    after-ready (w ∷ g ∷ []) (h ∷ []) [] _ c.use_after.new.tables
+    after-ready (w ∷ g ∷ []) (h ∷ []) [] _ c.wrote_after.new.tables
     (next-all (Pipe c.args.p WriteChunk ∷ []) (w ∷ g ∷ h ∷ []) old _ c.requires.room
     (written-on c.args.p old _ x c.write_directly-written.new.self c.write_directly-written.new.p (Some (c.in-Some.chunk, c.in-Some.promise)) c.dest-dest.result
     (stands-at old.pipes.items c.args.p.0 x x (omega arith) c.index_mut-pipe.ensures.value) c.dest-dest.ensures
@@ -115,7 +115,7 @@ go_on_after-requires c =
     })
     c.requires.kept)
     c.requires.quiet).room
-    (after-then (w ∷ []) (g ∷ []) _ c.write.new.tables c.use_after.new.tables c.write.ensures c.use_after.ensures)
+    (after-then (w ∷ []) (g ∷ []) _ c.write.new.tables c.wrote_after.new.tables c.write.ensures c.wrote_after.ensures)
 
 pub returns : goal.returns
 returns c =
@@ -144,8 +144,8 @@ returns c =
       uncopied = refl;
     })
     c.requires.kept)
-    (after-then (w ∷ g ∷ []) (h ∷ []) _ c.use_after.new.tables c.go_on_after.new.tables
-    (after-then (w ∷ []) (g ∷ []) _ c.write.new.tables c.use_after.new.tables c.write.ensures c.use_after.ensures) c.go_on_after.ensures)
+    (after-then (w ∷ g ∷ []) (h ∷ []) _ c.wrote_after.new.tables c.go_on_after.new.tables
+    (after-then (w ∷ []) (g ∷ []) _ c.write.new.tables c.wrote_after.new.tables c.write.ensures c.wrote_after.ensures) c.go_on_after.ensures)
 
 pub returns-in_default : goal.returns-in_default
 returns-in_default c =

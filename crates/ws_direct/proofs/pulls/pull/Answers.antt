@@ -1,4 +1,4 @@
-use Rattle.std.proofs.Common.{[], ◌∷◌, None, refl, sym, arith}
+use Rattle.std.proofs.Common.{[], ◌∷◌, None, sym, arith}
 use Rattle.ws_steps.specs.declared.effects.Effect.{Effect}
 use Rattle.ws_steps.specs.declared.effects.Effect.TheVariants.{PullAlgorithm, Transform}
 use Rattle.ws_steps.specs.declared.effects.Use.TheVariants.{React}
@@ -24,8 +24,8 @@ returns-in-HalfOf c =
     (by (PullAlgorithm c.args.i) (one ∷ []) old old c.requires.kept (pull-is c.args.i old c.in-HalfOf.t c.requires.quiet (sym (rw c.in-HalfOf.is at c.owner.ensures))) c.requires.kept)
     c.source_pull.ensures
 
-pub push-requires : goal.push-requires
-push-requires c = effect-room 1 _ c.args.tables.now (omega arith) c.requires
+pub leave_pull-requires : goal.leave_pull-requires
+leave_pull-requires c = effect-room 1 _ c.args.tables.now (omega arith) c.requires
 
 pub returns-in_default : goal.returns-in_default
-returns-in_default c = one-left (PullAlgorithm c.args.i) c.args.tables.now _ c.push.new.self c.requires c.push.ensures refl
+returns-in_default c = one-left (PullAlgorithm c.args.i) c.args.tables.now c.leave_pull.new.tables c.requires c.leave_pull.ensures

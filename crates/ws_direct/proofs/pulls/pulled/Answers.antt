@@ -10,11 +10,11 @@ use Rattle.ws_direct.proofs.Reaching.{effect-room, next-ready, no-effects, one-l
 use Rattle.ws_direct.proofs.Streams.{pulled-on}
 use Rattle.ws_direct.proofs.pulls.pulled.Goals as goal
 
-pub push-requires : goal.push-requires
-push-requires c = effect-room 1 _ c.args.tables.now (omega arith) c.requires
+pub leave_pulled-requires : goal.leave_pulled-requires
+leave_pulled-requires c = effect-room 1 _ c.args.tables.now (omega arith) c.requires
 
 pub returns-then-not-has_readable : goal.returns-then-not-has_readable
-returns-then-not-has_readable c = one-left (ReadableEffect c.args.i (PullSettled (Ok Undefined))) c.args.tables.now _ c.push.new.self c.requires c.push.ensures refl
+returns-then-not-has_readable c = one-left (ReadableEffect c.args.i (PullSettled (Ok Undefined))) c.args.tables.now c.leave_pulled.new.tables c.requires c.leave_pulled.ensures
 
 pub index_mut-requires : goal.index_mut-requires
 index_mut-requires c =

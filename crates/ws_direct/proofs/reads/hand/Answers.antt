@@ -1,4 +1,4 @@
-use Rattle.std.proofs.Common.{[], ◌∷◌, refl, arith}
+use Rattle.std.proofs.Common.{[], ◌∷◌, arith}
 use Rattle.ws_steps.specs.declared.effects.Effect.TheVariants.{ChunkSteps, Pipe}
 use Rattle.ws_steps.specs.declared.pipes.PipeOperation.TheVariants.{KeepChunk}
 use Rattle.ws_effects.proofs.Going.{keep-is}
@@ -19,8 +19,8 @@ returns-in-Pipe c =
     (by (ChunkSteps c.args.i c.args.request c.args.chunk) (Pipe c.in-Pipe.p (KeepChunk c.args.chunk) ∷ []) old old c.requires.kept (rw c.in-Pipe.is (keep-is c.args.i c.in-Pipe.p c.args.chunk old)) c.requires.kept)
     c.keep_chunk.ensures
 
-pub push-requires : goal.push-requires
-push-requires c = effect-room 1 _ c.args.tables.now (omega arith) c.requires
+pub leave_chunk-requires : goal.leave_chunk-requires
+leave_chunk-requires c = effect-room 1 _ c.args.tables.now (omega arith) c.requires
 
 pub returns-in_default : goal.returns-in_default
-returns-in_default c = one-left (ChunkSteps c.args.i c.args.request c.args.chunk) c.args.tables.now _ c.push.new.self c.requires c.push.ensures refl
+returns-in_default c = one-left (ChunkSteps c.args.i c.args.request c.args.chunk) c.args.tables.now c.leave_chunk.new.tables c.requires c.leave_chunk.ensures

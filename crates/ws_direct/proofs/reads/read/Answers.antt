@@ -15,11 +15,11 @@ use Rattle.ws_direct.proofs.Told.{and-first, going-here, one-request, read-told}
 use Rattle.ws_direct.proofs.Streams.{may-note, noted-put, readable-on, read-took}
 use Rattle.ws_direct.proofs.reads.read.Goals as goal
 
-pub push-requires : goal.push-requires
-push-requires c = effect-room 1 _ c.args.tables.now (omega arith) c.requires
+pub leave_read-requires : goal.leave_read-requires
+leave_read-requires c = effect-room 1 _ c.args.tables.now (omega arith) c.requires
 
 pub returns-then-not-is_going : goal.returns-then-not-is_going
-returns-then-not-is_going c = one-left (ReadableEffect c.args.i (Read c.args.request)) c.args.tables.now _ c.push.new.self c.requires c.push.ensures refl
+returns-then-not-is_going c = one-left (ReadableEffect c.args.i (Read c.args.request)) c.args.tables.now c.leave_read.new.tables c.requires c.leave_read.ensures
 
 pub index_mut-requires : goal.index_mut-requires
 index_mut-requires c =

@@ -7,10 +7,10 @@ use Rattle.ws_direct.specs.Directly.{Reaches, handed}
 use Rattle.ws_direct.proofs.Reaching.{next-ready, quietly, then}
 use Rattle.ws_direct.proofs.writes.hand_on.Goals as goal
 
-pub transform_chunk-requires : goal.transform_chunk-requires
-transform_chunk-requires c =
+pub transform_chunk-requires-clause-ready : goal.transform_chunk-requires-clause-ready
+transform_chunk-requires-clause-ready c =
     let old = c.args.tables.now in
-    next-ready (WritableEffect c.args.i (HandOn (ToTransform c.args.t c.args.promise))) (Transform c.args.t (TransformChunk c.in-Some.chunk c.args.promise)) [] old c.chunk_of.new.tables c.requires.room
+    next-ready (WritableEffect c.args.i (HandOn (ToTransform c.args.t c.args.promise))) (Transform c.args.t (TransformChunk c.in-Some.chunk c.args.promise)) [] old c.chunk_of.new.tables c.requires.ready.room
     (subst (λ o. Reaches (WritableEffect c.args.i (HandOn (ToTransform c.args.t c.args.promise)) ∷ []) old (handed c.args.i (ToTransform c.args.t c.args.promise) o) c.chunk_of.new.tables) c.in-Some.is
     (c.chunk_of.ensures.reached (ToTransform c.args.t c.args.promise)))
     c.chunk_of.ensures.quiet

@@ -1,4 +1,4 @@
-use Rattle.std.proofs.Common.{[], ◌∷◌, None, refl, sym, arith}
+use Rattle.std.proofs.Common.{[], ◌∷◌, None, sym, arith}
 use Rattle.ws_steps.specs.declared.effects.Effect.{Effect}
 use Rattle.ws_steps.specs.declared.effects.Effect.TheVariants.{WriteAlgorithm, Transform, Writable as WritableEffect}
 use Rattle.ws_steps.specs.declared.effects.Use.TheVariants.{React}
@@ -42,8 +42,8 @@ returns-in-Host c =
     (by (WriteAlgorithm c.args.i) (one ∷ []) old old c.requires.kept (hand-is c.args.i old (sym (rw c.in-Host.is at c.owner.ensures))) c.requires.kept)
     c.write_to_host.ensures
 
-pub push-requires : goal.push-requires
-push-requires c = effect-room 1 _ c.args.tables.now (omega arith) c.requires
+pub leave_write_algorithm-requires : goal.leave_write_algorithm-requires
+leave_write_algorithm-requires c = effect-room 1 _ c.args.tables.now (omega arith) c.requires
 
 pub returns-in_default : goal.returns-in_default
-returns-in_default c = one-left (WriteAlgorithm c.args.i) c.args.tables.now _ c.push.new.self c.requires c.push.ensures refl
+returns-in_default c = one-left (WriteAlgorithm c.args.i) c.args.tables.now c.leave_write_algorithm.new.tables c.requires c.leave_write_algorithm.ensures

@@ -7,8 +7,8 @@ use Rattle.ws_direct.specs.Directly.{Reaches, handed}
 use Rattle.ws_direct.proofs.Reaching.{next-ready, quietly, then}
 use Rattle.ws_direct.proofs.writes.write_to_host.Goals as goal
 
-pub call_host-requires : goal.call_host-requires
-call_host-requires c =
+pub call_host-requires-clause-ready : goal.call_host-requires-clause-ready
+call_host-requires-clause-ready c =
     let old = c.args.tables.now in
     next-ready (WritableEffect c.args.i (HandOn ToHost)) (write_to_host c.args.i c.in-Some.chunk) [] old c.chunk_of.new.tables c.requires.room
     (subst (λ o. Reaches (WritableEffect c.args.i (HandOn ToHost) ∷ []) old (handed c.args.i ToHost o) c.chunk_of.new.tables) c.in-Some.is (c.chunk_of.ensures.reached ToHost))
