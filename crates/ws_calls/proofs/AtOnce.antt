@@ -21,22 +21,13 @@ use Rattle.ws_effects.specs.Performing.{PerformsAll}
 use Rattle.ws_tables.specs.declared.tables.Tables.{Tables}
 use Rattle.ws_tables.proofs.Places.{kept_same}
 use Rattle.ws_begin.specs.Begin.{IsBegun}
-use Rattle.ws_calls.specs.First.{Began}
+use Rattle.ws_calls.specs.First.{Began, Fits, FitsFirst, effect_of, without_first}
+use Rattle.ws_calls.specs.declared.first.First.{First}
 use Rattle.ws_calls.proofs.Beginning.{call-begins, job-begins}
-
--- the first job is taken out of the queue
-abbrev pub without_first : Tables → Tables
-without_first t = record t { promises = record t.promises { table = after_next_job t.promises.table } }
 
 -- one effect is caused
 abbrev causing : Effect → Tables → Tables
 causing e t = record t { caused = record t.caused { effects = e ∷ [] } }
-
--- there are places for an effect and all that comes of it
-pub record Fits (e : Effect) (t : Tables) : Type 0 where
-  pub room : HasRoomForAll (e ∷ []) t
-  pub turns : CanTurn (e ∷ []) t.under_way t
-  pub kept : IsKept t
 
 fits : (e : Effect) (t : Tables) → IsBegun (causing e t) → Fits e t
 fits e t begun =
@@ -108,7 +99,7 @@ pub call-ready : (c : Call) (e : Effect) (t : Tables) → IsReady t → IsRestin
 call-ready c e t ready rest is = let had = call-fits c e t ready rest is in record { quiet = rest.caused; room = had.room; kept = had.kept }
 
 -- a job with one effect begins so
-begins-with : (t : Tables) (job : Job) (e : Effect) → next_job t.promises.table ≡ Some job → job_effects job ≡ e ∷ []
+pub begins-with : (t : Tables) (job : Job) (e : Effect) → next_job t.promises.table ≡ Some job → job_effects job ≡ e ∷ []
     → begin_job (slots_of t) ≡ causes (e ∷ []) (slots_of (without_first t))
 unfolding begin_job
 begins-with t job e there one = rw (there, one) refl
@@ -122,52 +113,62 @@ first-busy : (js : List Job) (job : Job) → first_job js ≡ Some job → is_em
 first-busy [] job there = cc
 first-busy (j ∷ js) job there = refl
 
-module _ (t : Tables) (ready : IsReady t) (rest : IsResting t) (job : Job) (e : Effect) (there : next_job t.promises.table ≡ Some job)
-    (one : job_effects job ≡ e ∷ []) where
-  pub first-fits : Fits e (without_first t)
-  first-fits =
-      let begun = begins-with t job e there one in
-      fits e (without_first t)
-      (job-begins t (causing e (without_first t)) ready rest
-      (record {
-        slots = ap (λ (d : Left). d.slots) (sym begun);
-        caused = ap (λ (d : Left). d.caused) (sym begun);
-        others = refl;
-        places = refl;
-        records = record { streams = refl; grown = refl; waiting = refl; pipes = refl; signals = refl; full = refl; aborts = refl; tees = refl; uncopied = refl };
-      }))
+first-fits : (t : Tables) → IsReady t → IsResting t → (job : Job) (e : Effect) → next_job t.promises.table ≡ Some job → job_effects job ≡ e ∷ [] → Fits e (without_first t)
+first-fits t ready rest job e there one =
+    let begun = begins-with t job e there one in
+    fits e (without_first t)
+    (job-begins t (causing e (without_first t)) ready rest
+    (record {
+      slots = ap (λ (d : Left). d.slots) (sym begun);
+      caused = ap (λ (d : Left). d.caused) (sym begun);
+      others = refl;
+      places = refl;
+      records = record { streams = refl; grown = refl; waiting = refl; pipes = refl; signals = refl; full = refl; aborts = refl; tees = refl; uncopied = refl };
+    }))
 
-  pub first-ready : t.caused.effects ≡ [] → IsReadyFor (e ∷ []) (without_first t)
-  first-ready quiet = let had = first-fits in record { quiet = quiet; room = had.room; kept = had.kept }
+pub ready-one : (e : Effect) (t : Tables) → Fits e t → t.caused.effects ≡ [] → IsReadyFor (e ∷ []) t
+ready-one e t had quiet = record { quiet = quiet; room = had.room; kept = had.kept }
 
-  pub began : (t' : Tables) → PerformsDirectly (e ∷ []) (without_first t) t' → Began t t'
-  began t' did = record {
-    begun = begun-at e (without_first t) t' first-fits rest.others did;
-    slots = left-at e (without_first t) t' did ∙ ap performed (sym (begins-with t job e there one));
-    busy = first-busy t.promises.table.jobs job there;
-  }
+pub began : (t : Tables) (job : Job) (e : Effect) → IsResting t → next_job t.promises.table ≡ Some job → job_effects job ≡ e ∷ [] → Fits e (without_first t)
+    → (t' : Tables) → PerformsDirectly (e ∷ []) (without_first t) t' → Began t t'
+began t job e rest there one had t' did = record {
+  begun = begun-at e (without_first t) t' had rest.others did;
+  slots = left-at e (without_first t) t' did ∙ ap performed (sym (begins-with t job e there one));
+  busy = first-busy t.promises.table.jobs job there;
+}
 
 -- a job without effects begins so, and nothing is left to perform
-begins-without : (t : Tables) (job : Job) → next_job t.promises.table ≡ Some job → job_effects job ≡ [] → begin_job (slots_of t) ≡ causes [] (slots_of (without_first t))
+pub begins-without : (t : Tables) (job : Job) → next_job t.promises.table ≡ Some job → job_effects job ≡ [] → begin_job (slots_of t) ≡ causes [] (slots_of (without_first t))
 unfolding begin_job
 begins-without t job there none = rw (there, none) refl
 
-pub began-nothing : (t : Tables) → IsReady t → IsResting t → (job : Job) → next_job t.promises.table ≡ Some job → job_effects job ≡ [] → Began t (without_first t)
-began-nothing t ready rest job there none =
+nothing-begins : (t : Tables) → IsReady t → IsResting t → (job : Job) → next_job t.promises.table ≡ Some job → job_effects job ≡ [] → IsBegun (without_first t)
+nothing-begins t ready rest job there none =
+    let begun = begins-without t job there none in
+    job-begins t (without_first t) ready rest
+    (record {
+      slots = ap (λ (d : Left). d.slots) (sym begun);
+      caused = rest.caused ∙ ap (λ (d : Left). d.caused) (sym begun);
+      others = refl;
+      places = refl;
+      records = record { streams = refl; grown = refl; waiting = refl; pipes = refl; signals = refl; full = refl; aborts = refl; tees = refl; uncopied = refl };
+    })
+
+pub began-nothing : (t : Tables) → IsResting t → (job : Job) → next_job t.promises.table ≡ Some job → job_effects job ≡ [] → IsBegun (without_first t) → Began t (without_first t)
+began-nothing t rest job there none begins =
     let begun = begins-without t job there none in
     record {
-      begun =
-          job-begins t (without_first t) ready rest
-          (record {
-            slots = ap (λ (d : Left). d.slots) (sym begun);
-            caused = rest.caused ∙ ap (λ (d : Left). d.caused) (sym begun);
-            others = refl;
-            places = refl;
-            records = record { streams = refl; grown = refl; waiting = refl; pipes = refl; signals = refl; full = refl; aborts = refl; tees = refl; uncopied = refl };
-          });
+      begun = begins;
       slots = ap (λ es. performed (causes es (slots_of (without_first t)))) rest.caused ∙ ap performed (sym begun);
       busy = first-busy t.promises.table.jobs job there;
     }
+
+-- places for any job are places for the first
+pub ready-first : (t : Tables) → IsReady t → IsResting t → FitsFirst t
+ready-first t ready rest = record {
+  one = λ first job there is. first-fits t ready rest job (effect_of first) there is;
+  none = λ job there is. nothing-begins t ready rest job there is;
+}
 
 -- nothing was caused, and nothing is left to perform
 pub none-caused : (t : Tables) → IsBegun t → t.caused.effects ≡ [] → PerformsAll t t

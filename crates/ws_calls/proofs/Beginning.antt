@@ -444,3 +444,16 @@ job-begins t t' ready rest did =
       handing = job-hands (slots_of t);
       records = inl (record { streams = same.streams; grown = same.grown; signals = same.signals; full = same.full; tees = same.tees; uncopied = same.uncopied });
     })
+
+-- what a job or a call begins with takes no more than any of them
+
+pub job-takes : (t : Tables) (s' : Slots) (es : List Effect) → s' ≡ (begin_job (slots_of t)).slots → es ≡ (begin_job (slots_of t)).caused → Takes step_price (slots_of t) s' es
+job-takes t s' es slots caused =
+    let d = begin_job (slots_of t) in
+    rw (slots, caused) (takes step_price (slots_of t) d.slots d.caused (λ π i a counts. let h = job-fits π i a counts (slots_of t) in omega (arith, h)))
+
+pub call-takes : (c : Call) (t : Tables) (s' : Slots) (es : List Effect) → s' ≡ (begin c (slots_of t)).done.slots → es ≡ (begin c (slots_of t)).done.caused
+    → Takes step_price (slots_of t) s' es
+call-takes c t s' es slots caused =
+    let d = (begin c (slots_of t)).done in
+    rw (slots, caused) (takes step_price (slots_of t) d.slots d.caused (λ π i a counts. let h = begin-fits π i a counts (slots_of t) c in omega (arith, h)))

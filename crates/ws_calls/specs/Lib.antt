@@ -1,1 +1,2 @@
+pub mod Credit
 pub mod First

@@ -1,12 +1,13 @@
 //! The jobs that each chunk meets on its way through a pipe. Each has one effect, which is performed at once, with what
 //! comes of it.
-ghost use Rattle.std.specs.Prelude.{◌≡◌, [], ◌∷◌, Some, IfSome, option_map, true, false};
+ghost use Rattle.std.specs.Prelude.{◌≡◌, ◌+◌, ℕ, [], ◌∷◌, Some, IfSome, option_map, true, false};
 ghost use Rattle.ws_steps.specs.Jobs.{job_effects};
 ghost use Rattle.ws_jobs.specs.Shorts.{job_in};
 ghost use Rattle.ws_direct.specs.Directly.{IsReadyFor, PerformsDirectly};
 ghost use Rattle.ws_effects.specs.Performing.{Performs};
-ghost use Rattle.ws_tables.specs.Room.{IsReady, IsResting, KeepsRecords};
-ghost use Rattle.ws_calls.specs.First.{Began, effect_of};
+ghost use Rattle.ws_tables.specs.Room.{IsResting, KeepsRecords};
+ghost use Rattle.ws_calls.specs.Credit.{HasPlacesFor, IsAtHand};
+ghost use Rattle.ws_calls.specs.First.{Began, FitsFirst, effect_of};
 ghost use Rattle.ws_calls.specs.declared.first.First.TheVariants as first;
 
 use ws_direct::{pipe_ready, pipe_writes, pipe_wrote, pulled, write_goes_on, wrote};
@@ -101,9 +102,11 @@ fn perform(tables: &mut Tables, first: First)
 /// Takes the first job out of the queue and performs its one effect, where it is such a job or one without effects.
 /// False says that nothing was done.
 pub(crate) fn begin_first(tables: &mut Tables) -> bool
-    requires ready { IsReady tables.old }
+    requires fits { FitsFirst tables.old }
     requires resting { IsResting tables.old }
     ensures began { result ≡ true → Began tables.old tables.new }
+    ensures afforded { result ≡ true → tables.new.caused.effects ≡ [] → (n : ℕ) → HasPlacesFor (n + 1) tables.old
+        → IsAtHand tables.old → HasPlacesFor n tables.new }
     ensures untouched { result ≡ false → tables.new ≡ tables.old }
 {
     let short = tables.promises.first_short();

@@ -73,7 +73,7 @@ fn is_done(reply: &Reply) -> bool
 }
 
 /// Performs what was caused, with all that comes of it. Mostly that is nothing where a promise was fulfilled.
-fn perform_caused(tables: &mut Tables)
+pub(crate) fn perform_caused(tables: &mut Tables)
     requires { IsBegun tables.old }
     ensures { PerformsAll tables.old tables.new }
 {
@@ -104,7 +104,7 @@ fn perform_uncommon_enqueue(tables: &mut Tables, i: StreamId, chunk: Value) -> b
 /// The transform stream at whose readable half a chunk is enqueued, where that can take it.
 #[inline(always)]
 #[tactic(auto, unfolding(ws_steps::specs::Calls::begin))]
-fn half_of(tables: &Tables, i: StreamId) -> Option<TransformId>
+pub(crate) fn half_of(tables: &Tables, i: StreamId) -> Option<TransformId>
     ensures { IfSome result (λ t. (chunk : Value) → calls.begin (call.Enqueue i chunk) (slots_of tables.now)
         ≡ does (effect.Transform t (transform.Enqueue chunk) ∷ []) (slots_of tables.now)) }
 {

@@ -1,5 +1,5 @@
 //! A host's answer that what it was asked is done, with which each of its algorithms that a chunk meets ends.
-ghost use Rattle.std.specs.Prelude.{◌≡◌, ◌↔◌, ◌<◌, ◌+◌, ◌^◌, true, false};
+ghost use Rattle.std.specs.Prelude.{ℕ, ◌≡◌, ◌↔◌, ◌<◌, ◌+◌, ◌^◌, true, false};
 ghost use Rattle.ws_steps.specs.Run as run;
 ghost use Rattle.ws_steps.specs.declared.calls.Answer.TheVariants as answer;
 ghost use Rattle.ws_steps.specs.declared.calls.Call.TheVariants as call;
@@ -7,6 +7,7 @@ ghost use Rattle.ws_steps.specs.declared.calls.Reply.TheVariants.{Done, Throws};
 ghost use Rattle.ws_steps.specs.declared.calls.Thrown.TheVariants.{Unsupported};
 ghost use Rattle.ws_tables.specs.Room.{IsResting};
 ghost use Rattle.ws_tables.specs.View.{slots_of};
+ghost use Rattle.ws_calls.specs.Credit.{HasPlacesFor};
 
 use ws_tables::Tables;
 use ws_value::{HostId, Plain};
@@ -21,6 +22,7 @@ pub fn settle_done(tables: &mut Tables, h: HostId) -> bool
     ensures slots { slots_of tables.new ≡ run.after_call (call.Settle h answer.Ok) (slots_of tables.old) }
     ensures resting { IsResting tables.new }
     ensures age { tables.new.age ≡ tables.old.age + 1 }
+    ensures places { (n : ℕ) → HasPlacesFor n tables.old → HasPlacesFor n tables.new }
 {
     tables.age += 1;
     let Some(promise) = tables.host(h) else {

@@ -1,4 +1,4 @@
-use Rattle.std.proofs.Common.{◌≡◌, ◌∙◌, Ok, refl, sym, Some, None}
+use Rattle.std.proofs.Common.{◌≡◌, ◌∙◌, ◌+◌, Ok, refl, sym, Some, None}
 use Rattle.std.proofs.lemmas.Bool.{false≢true}
 use Rattle.ws_steps.specs.declared.calls.Reply.TheVariants.{Done, Throws}
 use Rattle.ws_steps.specs.declared.calls.Thrown.{Thrown}
@@ -9,6 +9,7 @@ use Rattle.ws_tables.specs.View.{slots_of}
 use Rattle.ws_tables.proofs.Counts.{settle-more}
 use Rattle.ws_tables.proofs.Places.{kept_beside}
 use Rattle.ws_calls.proofs.Answered.{done-reply, done-slots, none-reply, none-slots}
+use Rattle.ws_calls.proofs.Credit.{aged, settled-places}
 use Rattle.ws_calls.proofs.settled.settle_done.Goals as goal
 
 throws-not_done : (t : Thrown) → Throws t ≡ Done → ⊥
@@ -49,3 +50,12 @@ returns-clause-resting c =
           kept_beside old _ (record { streams = refl; grown = refl; waiting = refl; pipes = refl; signals = refl; full = refl; aborts = refl; tees = refl; uncopied = refl })
           (rw c.fulfil.ensures (settle-more c.in-Some.promise (Ok Undefined) (slots_of old))) (rest.kept.few.0, rest.kept.few.1) rest.kept;
     }
+
+pub returns-in_default-clause-places : goal.returns-in_default-clause-places
+returns-in_default-clause-places c = λ n has. aged n (c.args.tables.now.age + 1) c.args.tables.now has
+
+pub returns-clause-places : goal.returns-clause-places
+returns-clause-places c = λ n has.
+    let old = c.args.tables.now in
+    let p = c.in-Some.promise in
+    rw (c.fulfil.ensures, c.settle.ensures) (settled-places n p (Ok Undefined) c.args.h.0 (old.age + 1) old has)
