@@ -11,6 +11,8 @@ use Rattle.ws_promise.specs.Seen.{Seen, HasRoom, jobs_in, events_in}
 use Rattle.ws_tables.specs.Room.{IsPrepared, IsResting, places_for}
 use Rattle.ws_tables.specs.declared.tables.Tables.{Tables}
 use Rattle.ws_tables.proofs.Places.{kept_promises}
+use Rattle.ws_calls.specs.Credit.{HasPlacesFor}
+use Rattle.ws_calls.proofs.Credit.{with-fewer}
 
 -- nothing takes more places
 pub record Less (t u : Table) : Type 0 where
@@ -108,3 +110,7 @@ ready-still t u less prepared =
       pipes = prepared.pipes;
       signals = prepared.signals;
     }
+
+-- and so it is with those for several jobs
+pub places-still : (n : ℕ) (t : Tables) (u : Table) → Less t.promises.table u → HasPlacesFor n t → HasPlacesFor n (record t { promises = record t.promises { table = u } })
+places-still n t u less has = with-fewer n (record t.promises { table = u }) t _ refl refl less.entries less.jobs less.events (omega arith) refl has

@@ -15,7 +15,10 @@ ghost use Rattle.ws_realm.specs.declared.realm.Why.TheVariants as why;
 
 use std::alloc::Global;
 use std::marker::Model;
-use ws_calls::{perform_call, perform_enqueue, perform_job, settle_done};
+use ws_calls::{
+    count_places, enqueue_at_hand, perform_at_hand, perform_call, perform_enqueue, perform_job,
+    settle_done,
+};
 use ws_prepare::{prepare, prepare_work};
 use ws_steps::{Call, Event, Reply};
 use ws_tables::Tables;
@@ -50,10 +53,13 @@ pub struct NoRoom {
 pub struct Realm {
     tables: Tables,
     prepared: bool,
+    /// For how many of the jobs that each chunk meets places were found.
+    places: u32,
 }
 
 impl Model for Realm {
     ghost use Rattle.std.specs.Prelude.{◌≡◌, ◌≤◌, ◌<◌, ◌^◌, true};
+    ghost use Rattle.ws_calls.specs.Credit.{AreFound};
     ghost use Rattle.ws_tables.specs.Room.{IsPrepared, IsResting};
     ghost use Rattle.ws_realm.specs.Seen.{SeenRealm};
     ghost use Rattle.ws_tables.specs.View.{slots_of};
@@ -64,7 +70,8 @@ impl Model for Realm {
 
     // Between calls and jobs no effect waits.
     ghost invariant = { λ r. IsResting r.tables × (r.tables.age ≤ 2 ^ 62)
-        × (r.prepared ≡ true → IsPrepared r.tables × (r.tables.age < 2 ^ 62)) };
+        × (r.prepared ≡ true → IsPrepared r.tables × (r.tables.age < 2 ^ 62))
+        × AreFound r.places r.tables };
 }
 
 impl Realm {
@@ -75,6 +82,7 @@ impl Realm {
         Ok(Realm {
             tables: Tables::make(alloc)?,
             prepared: false,
+            places: 0,
         })
     }
 
@@ -94,6 +102,7 @@ impl Realm {
         if self.tables.age == OLDEST {
             return Err(Why::Spent);
         }
+        self.places = 0;
         match prepare(&mut self.tables) {
             Ok(()) => {
                 self.prepared = true;
@@ -123,6 +132,7 @@ impl Realm {
             });
         }
         self.prepared = false;
+        self.places = 0;
         Ok(perform_call(&mut self.tables, call))
     }
 
@@ -140,11 +150,35 @@ impl Realm {
         if self.tables.age == OLDEST {
             return Err(Why::Spent);
         }
+        match enqueue_at_hand(&mut self.tables, i, chunk, self.places) {
+            Ok(left) => {
+                self.prepared = false;
+                self.places = left;
+                Ok(true)
+            }
+            Err(chunk) => self.enqueue_prepared(i, chunk),
+        }
+    }
+
+    /// The same after the places were looked for.
+    #[inline(never)]
+    fn enqueue_prepared(&mut self, i: StreamId, chunk: Value) -> Result<bool, Why>
+        requires young { self.old.slots.age < oldest }
+        ensures done { IfOk result (λ done.
+            (done ≡ true) ↔ (run.reply_to (call.Enqueue i chunk) self.old.slots ≡ reply.Done)) }
+        ensures slots { OnOk result (self.new.slots ≡ run.after_call (call.Enqueue i chunk) self.old.slots) }
+        ensures wanting { IfErr result (λ refused. refused ≡ why.NoMemory) }
+        ensures untouched { OnErr result (self.new ≡ self.old) }
+        ensures prepared { self.old.prepared ≡ true → IsOk result }
+    {
+        self.places = 0;
         if let Err(NoMemory) = prepare_work(&mut self.tables, self.prepared) {
             return Err(Why::NoMemory);
         }
         self.prepared = false;
-        Ok(perform_enqueue(&mut self.tables, i, chunk))
+        let done = perform_enqueue(&mut self.tables, i, chunk);
+        self.places = count_places(&self.tables);
+        Ok(done)
     }
 
     /// Performs `Call::Deliver`, as each message of a port meets it. Whether there is such a port: else the call
@@ -160,6 +194,7 @@ impl Realm {
     {
         self.prepare()?;
         self.prepared = false;
+        self.places = 0;
         Ok(matches!(
             perform_call(&mut self.tables, Call::Deliver(c, message)),
             Reply::Done
@@ -202,11 +237,35 @@ impl Realm {
         if self.queued() == 0 {
             return Ok(false);
         }
+        match perform_at_hand(&mut self.tables, self.places) {
+            Some(left) => {
+                self.prepared = false;
+                self.places = left;
+                Ok(true)
+            }
+            None => self.job_prepared(),
+        }
+    }
+
+    /// The same after the places were looked for.
+    #[inline(never)]
+    fn job_prepared(&mut self) -> Result<bool, Why>
+        requires young { self.old.slots.age < oldest }
+        ensures worked { IfOk result (λ worked. worked ≡ not (run.is_idle self.old.slots)) }
+        ensures slots { OnOk result (self.new.slots
+            ≡ (if run.is_idle self.old.slots then self.old.slots else run.after_job self.old.slots)) }
+        ensures wanting { IfErr result (λ refused. refused ≡ why.NoMemory) }
+        ensures untouched { OnErr result (self.new ≡ self.old) }
+        ensures prepared { self.old.prepared ≡ true → IsOk result }
+    {
+        self.places = 0;
         if let Err(NoMemory) = prepare_work(&mut self.tables, self.prepared) {
             return Err(Why::NoMemory);
         }
         self.prepared = false;
-        Ok(perform_job(&mut self.tables))
+        let worked = perform_job(&mut self.tables);
+        self.places = count_places(&self.tables);
+        Ok(worked)
     }
 
     /// Performs jobs until none is queued, or `most` were. One that is queued may be refused: then those before it
