@@ -155,7 +155,8 @@ pub fn enqueue_at_hand(
     requires resting { IsResting tables.old }
     requires young { tables.old.age < 2 ^ 62 }
     ensures done { IfOk result (λ left. run.reply_to (call.Enqueue i chunk) (slots_of tables.old) ≡ Done) }
-    ensures slots { IfOk result (λ left. slots_of tables.new ≡ run.after_call (call.Enqueue i chunk) (slots_of tables.old)) }
+    ensures slots { IfOk result (λ left. slots_of tables.new
+        ≡ run.after_call (call.Enqueue i chunk) (slots_of tables.old)) }
     ensures found { IfOk result (λ left. AreFound left tables.new) }
     ensures resting { IsResting tables.new }
     ensures age { tables.new.age ≤ tables.old.age + 1 }

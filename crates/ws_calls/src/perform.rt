@@ -73,7 +73,7 @@ fn is_done(reply: &Reply) -> bool
 }
 
 /// Performs what was caused, with all that comes of it. Mostly that is nothing where a promise was fulfilled.
-pub(crate) fn perform_caused(tables: &mut Tables)
+fn perform_caused(tables: &mut Tables)
     requires { IsBegun tables.old }
     ensures { PerformsAll tables.old tables.new }
 {
