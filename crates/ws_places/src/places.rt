@@ -1,5 +1,5 @@
 //! Values by number, each in a place that is used again.
-ghost use Rattle.std.specs.Prelude.{◌≡◌, ◌≢◌, ◌<◌, ◌≤◌, ◌+◌, ◌-◌, ◌^◌, ℕ, [], ◌∷◌, ◌++◌, IfOk, IfErr, IfSome, IfNone, IsOk, IsSome, OnOk, Some, None, length, option_copied, slice_get, vec_len, vec_capacity};
+ghost use Rattle.std.specs.Prelude.{◌≡◌, ◌≢◌, ◌<◌, ◌≤◌, ◌+◌, ◌-◌, ◌^◌, ℕ, [], ◌∷◌, ◌++◌, IfOk, IfErr, IfSome, IfNone, IsOk, IsSome, OnOk, Some, None, filter, is_some, length, option_copied, slice_get, vec_len, vec_capacity};
 ghost use Rattle.std.specs.Borrow.{sem};
 ghost use Rattle.std.specs.Option.{option_copied_mut};
 ghost use Rattle.ws_places.specs.Pairs.{Rising};
@@ -121,6 +121,23 @@ fn next_held(pairs: &Vec<Pair>, start: usize) -> Option<usize>
     None
 }
 
+/// Drops the pairs that have no place, as most have none: the others move to the front.
+fn drop_dead(pairs: &mut Vec<Pair>)
+    ensures items { pairs.new.items ≡ filter (λ q. is_some q.place) pairs.old.items }
+    ensures len { vec_len pairs.new ≤ vec_len pairs.old }
+    ensures capacity { vec_capacity pairs.new ≡ vec_capacity pairs.old }
+{
+    let mut kept = 0;
+    for i in 0..pairs.len() {
+        let pair = pairs[i];
+        if pair.place.is_some() {
+            pairs[kept] = pair;
+            kept += 1;
+        }
+    }
+    pairs.truncate(kept);
+}
+
 impl<T: Drop> Places<T> {
     ghost use Rattle.ws_places.specs.Lends.{lends_value};
 
@@ -142,7 +159,7 @@ impl<T: Drop> Places<T> {
         ensures next { self.new.next ≡ self.old.next }
         ensures spare { self.old.spare ≤ self.new.spare }
     {
-        self.pairs.retain(|pair| pair.place.is_some());
+        drop_dead(&mut self.pairs);
     }
 
     /// Makes places for `n` more values. The pairs whose values were let go of make room first.
