@@ -1,9 +1,9 @@
 -- What stands once a promise is made for which a reaction waits.
-use Rattle.std.proofs.Common.{◌≡◌, ◌∙◌, ℕ, ◌+◌, Bool, List, [], ◌∷◌, ◌++◌, length, Option, Some, None, refl, ap, arith}
+use Rattle.std.proofs.Common.{◌≡◌, ◌∙◌, ℕ, ◌+◌, Bool, List, [], ◌∷◌, ◌++◌, length, Option, Some, refl, ap, arith}
 use Rattle.std.proofs.Math.ListN.{length-append}
 use Rattle.std.specs.Prelude.{slice_get, slice_set}
 use Rattle.ws_value.specs.declared.ids.PromiseId.{PromiseId}
-use Rattle.ws_steps.specs.Promises.{Table, fresh, next_id, react}
+use Rattle.ws_steps.specs.Promises.{fresh, next_id, react}
 use Rattle.ws_steps.specs.declared.calls.Event.{Event}
 use Rattle.ws_steps.specs.declared.promises.Job.{Job}
 use Rattle.ws_steps.specs.declared.promises.Reaction.{Reaction}

@@ -1,4 +1,4 @@
-use Rattle.std.proofs.Common.{◌≤◌, ◌+◌, arith, ap, refl, length, min, vec_capacity}
+use Rattle.std.proofs.Common.{◌≤◌, ◌+◌, arith, refl, length, min, vec_capacity}
 use Rattle.ws_jobs.specs.Shorts.{reaction_in}
 use Rattle.ws_steps.specs.Places.{reactions_in}
 use Rattle.ws_slots.specs.View.{all_waiting, entries_from}

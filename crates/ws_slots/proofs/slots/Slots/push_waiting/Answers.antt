@@ -1,4 +1,4 @@
-use Rattle.std.proofs.Common.{refl, ap, arith, ◌≡◌, ◌+◌, length}
+use Rattle.std.proofs.Common.{ap, arith, ◌≡◌, ◌+◌, length}
 use Rattle.ws_slots.specs.Words.{SeenSlots}
 use Rattle.ws_slots.proofs.ItemLemmas.{length-shown, pushed, apart-push, length-more}
 use Rattle.ws_slots.proofs.slots.Slots.push_waiting.Goals as goal
