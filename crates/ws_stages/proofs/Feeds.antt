@@ -1,9 +1,9 @@
 -- Lines and blocks: the bytes before a feed, and those before the last byte of a block, at once.
-use Rattle.std.proofs.Common.{◌≡◌, ◌≢◌, ℕ, zero, suc, ◌+◌, ◌-◌, ◌<◌, ◌≤◌, List, [], ◌∷◌, ◌++◌, sym, ap, ◌∙◌, append_assoc, append-nil, length, length-append, take, drop, arith}
+use Rattle.std.proofs.Common.{◌≡◌, ◌≢◌, ℕ, zero, suc, ◌+◌, ◌-◌, ◌<◌, ◌≤◌, List, [], ◌∷◌, ◌++◌, sym, ap, ◌∙◌, append_assoc, append-nil, length, length-append, take, drop, get_or, slice_index, refl, arith}
 use Rattle.std.proofs.lemmas.Bool.Decides.{nat_tests}
-use Rattle.std.proofs.lemmas.List.{take-append-drop}
+use Rattle.std.proofs.lemmas.List.{drop_more, length-take-le, take_more, take-append-drop}
 use Rattle.ws_flow.specs.declared.plan.Ending.{Ending}
-use Rattle.ws_flow.specs.declared.plan.Ending.TheVariants.{Fine}
+use Rattle.ws_flow.specs.declared.plan.Ending.TheVariants.{Fine, Bad}
 use Rattle.ws_flow.specs.Machines.{Kept, Pushed, pushed, added, each_byte}
 use Rattle.ws_flow.specs.Stages.{line_byte, block_byte}
 use Rattle.ws_flow.proofs.Cutting.{each_append}
@@ -80,6 +80,51 @@ pub after_keep : (most : ℕ) (k j : Kept) (cs ds : List (List ℕ)) (left line 
     HasNoFeed n left → n ≤ length left → n ≤ most - length k.rest → line ≡ take n left → back ≡ drop n left → j ≡ with_bytes k line → ds ≡ cs →
     with_chunks ds (each_byte (line_byte most) j back) ≡ with_chunks cs (each_byte (line_byte most) k left)
 after_keep most k j cs ds left line back n plain within fits = after_kept (line_byte most) k j cs ds left line back n (plain_bytes most n left k plain within fits)
+
+-- what is left once a line is closed: what was left over and these bytes, the last of which is its feed
+pub after_line : (most : ℕ) (k j : Kept) (cs ds : List (List ℕ)) (left line back : List ℕ) (n : ℕ) →
+    HasNoFeed n left → n < length left → n ≤ most - length k.rest → slice_index left n ≡ 10 → line ≡ take (n + 1) left → back ≡ drop (n + 1) left →
+    j ≡ record k { rest = []; bytes = k.bytes + length line } → ds ≡ cs ++ (k.rest ++ line) ∷ [] →
+    with_chunks ds (each_byte (line_byte most) j back) ≡ with_chunks cs (each_byte (line_byte most) k left)
+after_line most k j cs ds left line back n plain lt fits feed line-is back-is is out =
+    let front = take n left in
+    let i = with_bytes k front in
+    let line-is-front : line ≡ front ++ 10 ∷ [] = line-is ∙ take_more left n 0 lt ∙ ap (λ q. front ++ q ∷ []) feed in
+    let left-is : drop n left ≡ 10 ∷ drop (n + 1) left = drop_more left n 0 lt ∙ ap (λ q. q ∷ drop (n + 1) left) feed in
+    let closed : pushed j ds Fine ≡ with_chunks cs (line_byte most i 10) = shut k j cs ds front line line-is-front is out in
+    ap (λ q. with_chunks ds (each_byte (line_byte most) j q)) back-is
+    ∙ after_byte (line_byte most) i cs 10 (drop (n + 1) left) (pushed j ds Fine) closed refl
+    ∙ ap (λ q. with_chunks cs (each_byte (line_byte most) i q)) (sym left-is)
+    ∙ after_keep most k i cs cs left front (drop n left) n plain (omega arith) fits refl refl refl refl where
+      shut : (k j : Kept) (cs ds : List (List ℕ)) (front line : List ℕ) → line ≡ front ++ 10 ∷ [] → j ≡ record k { rest = []; bytes = k.bytes + length line } → ds ≡ cs ++ (k.rest ++ line) ∷ [] →
+          pushed j ds Fine ≡ pushed (record k { rest = []; bytes = k.bytes + length front + 1 }) (cs ++ ((k.rest ++ front) ++ 10 ∷ []) ∷ []) Fine
+      shut k j cs ds front line line-is is out =
+          let bytes : k.bytes + length line ≡ k.bytes + length front + 1 = let len = ap length line-is ∙ length-append front (10 ∷ []) in omega (arith, len) in
+          let j-is : j ≡ record k { rest = []; bytes = k.bytes + length front + 1 } = is ∙ ap (λ q. record k { rest = []; bytes = q }) bytes in
+          let ds-is : ds ≡ cs ++ ((k.rest ++ front) ++ 10 ∷ []) ∷ [] =
+          out ∙ ap (λ q. cs ++ (k.rest ++ q) ∷ []) line-is ∙ ap (λ q. cs ++ q ∷ []) (sym (append_assoc k.rest front (10 ∷ []))) in
+          ap (λ q. pushed q ds Fine) j-is ∙ ap (λ q. pushed (record k { rest = []; bytes = k.bytes + length front + 1 }) q Fine) ds-is
+
+-- the byte behind a line that is as long as it may be is bad
+pub at_too_long : (most : ℕ) (k j : Kept) (cs ds : List (List ℕ)) (left line : List ℕ) (n : ℕ) (e : Ending) →
+    HasNoFeed n left → n < length left → n ≤ most - length k.rest → (n < length left → n < most - length k.rest → slice_index left n ≡ 10) → slice_index left n ≢ 10 → line ≡ take n left → j ≡ with_bytes k line → ds ≡ cs → e ≡ Bad 1 j.bytes →
+    pushed j ds e ≡ with_chunks cs (each_byte (line_byte most) k left)
+at_too_long most k j cs ds left line n e plain lt fits stops no-feed line-is is same bad =
+    let full : n ≡ most - length k.rest = grind (arith, stops, no-feed, lt, fits) in
+    let b = get_or left n 0 in
+    let len : length j.rest ≡ length k.rest + length line = ap (λ q. length q.rest) is ∙ length-append k.rest line in
+    let line-len : length line ≡ n = ap length line-is ∙ length-take-le n left (omega arith) in
+    let refused : line_byte most j b ≡ pushed j [] (Bad 1 j.bytes) = too_long most j b no-feed (omega (arith, len, line-len, full)) in
+    let new-is : pushed j ds e ≡ with_chunks ds (line_byte most j b) =
+    ap (λ q. pushed j ds q) bad ∙ ap (λ q. pushed j q (Bad 1 j.bytes)) (sym (append-nil ds)) ∙ ap (λ q. with_chunks ds q) (sym refused) in
+    at_bad (line_byte most) j ds b (drop (n + 1) left) (pushed j ds e) new-is (λ h. is_bad (sym bad ∙ h))
+    ∙ ap (λ q. with_chunks ds (each_byte (line_byte most) j q)) (sym (drop_more left n 0 lt))
+    ∙ after_keep most k j cs ds left line (drop n left) n plain (omega arith) fits line-is refl is same where
+      too_long : (most : ℕ) (k : Kept) (b : ℕ) → b ≢ 10 → most ≤ length k.rest → line_byte most k b ≡ pushed k [] (Bad 1 k.bytes)
+      too_long most k b n h = grind (arith, nat_tests)
+
+      is_bad : {p : ℕ} → Bad 1 p ≡ Fine → ⊥
+      is_bad h = cc
 
 -- those before the last byte of a block
 pub after_some : (size : ℕ) (k j : Kept) (cs ds : List (List ℕ)) (left some back : List ℕ) (n : ℕ) →

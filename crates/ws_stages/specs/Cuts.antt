@@ -1,7 +1,7 @@
 -- What a cut shows of a stage's machine.
 use Rattle.std.specs.Prelude.{◌≡◌, ◌≢◌, List, [], ◌∷◌, ℕ, ◌+◌, ◌^◌, ◌++◌, ◌<◌, length, slice_index}
 use Rattle.std.specs.List.{concat}
-use Rattle.ws_flow.specs.declared.plan.Ending.TheVariants.{Fine}
+use Rattle.ws_flow.specs.declared.plan.Ending.TheVariants.{Fine, Bad}
 use Rattle.ws_flow.specs.Machines.{Kept, Pushed, some_chunk}
 use Rattle.ws_stages.specs.declared.cut.Cut.{Cut}
 
@@ -24,6 +24,10 @@ handing_some cut text = record { kept = kept_of cut; chunks = some_chunk text; e
 -- these bytes are left over too
 abbrev pub with_bytes : Kept → List ℕ → Kept
 with_bytes k bs = record k { rest = k.rest ++ bs; bytes = k.bytes + length bs }
+
+-- what it shows once these bytes are left over too, and the next is one too many for a line
+abbrev pub too_long_at : Cut → List ℕ → Pushed
+too_long_at cut bs = let k = with_bytes (kept_of cut) bs in record { kept = k; chunks = cut.chunks.items; ending = Bad 1 k.bytes }
 
 -- none of the first n bytes is a feed
 abbrev pub HasNoFeed : ℕ → List ℕ → Type 0

@@ -1,10 +1,10 @@
 //! Stages that cut their input into chunks wherever it was cut before: `lines` a line at a time, `fixed` a block at a
 //! time, `unframe` byte by byte.
-ghost use Rattle.std.specs.Prelude.{◌≡◌, ◌∷◌, ◌++◌, [], ◌+◌, ◌<◌, ◌≤◌, ◌^◌, OnOk, length, drop};
+ghost use Rattle.std.specs.Prelude.{◌≡◌, ◌∷◌, ◌++◌, [], ◌+◌, ◌<◌, ◌≤◌, ◌^◌, OnOk, length, drop, slice_index};
 ghost use Rattle.ws_flow.specs.declared.plan.Ending.TheVariants.{Fine};
 ghost use Rattle.ws_flow.specs.Machines.{each_byte};
 ghost use Rattle.ws_flow.specs.Stages.{block_byte, line_byte};
-ghost use Rattle.ws_stages.specs.Cuts.{HasNoFeed, handing, handing_some, kept_of, seen, with_bytes, with_chunks};
+ghost use Rattle.ws_stages.specs.Cuts.{HasNoFeed, handing, handing_some, kept_of, seen, too_long_at, with_bytes, with_chunks};
 
 use memchr::memchr;
 use std::alloc::Global;
@@ -38,8 +38,7 @@ impl Cut {
         Ok(())
     }
 
-    /// The bytes that are left over, but for the first `n`, become a chunk, without a copy. There is room for as many
-    /// again.
+    /// The bytes that are left over, but for the first `n`, become a chunk, without a copy.
     pub fn close_from(&mut self, n: usize) -> Result<(), NoMemory>
         requires { n ≤ length self.old.rest.items }
         ensures rest { OnOk result (self.new.rest.items ≡ []) }
@@ -49,11 +48,59 @@ impl Cut {
         ensures count { self.new.count ≡ self.old.count }
         ensures ending { self.new.ending ≡ self.old.ending }
     {
-        let room = Vec::with_capacity(self.alloc, self.rest.len())?;
-        let bytes = mem::replace(&mut self.rest, room);
+        let bytes = mem::replace(&mut self.rest, Vec::new(self.alloc));
         let mut chunk = Chunk::from_vec(bytes);
         chunk.advance(n);
         self.chunks.push(chunk)?;
+        Ok(())
+    }
+
+    /// The same, with room for as many bytes again.
+    fn close_with_room(&mut self, n: usize) -> Result<(), NoMemory>
+        requires { n ≤ length self.old.rest.items }
+        ensures rest { OnOk result (self.new.rest.items ≡ []) }
+        ensures chunks { OnOk result
+            (self.new.chunks.items ≡ self.old.chunks.items ++ drop n self.old.rest.items ∷ []) }
+        ensures bytes { self.new.bytes ≡ self.old.bytes }
+        ensures count { self.new.count ≡ self.old.count }
+        ensures ending { self.new.ending ≡ self.old.ending }
+    {
+        let room = self.rest.len();
+        self.close_from(n)?;
+        self.rest.reserve_exact(room)?;
+        Ok(())
+    }
+
+    /// What is left over becomes a chunk with these bytes behind it. Where nothing was left over, the chunk takes as
+    /// much room as it has bytes.
+    fn close_behind(&mut self, bytes: &[u8]) -> Result<(), NoMemory>
+        requires room { self.old.bytes + length bytes.now < 2 ^ 128 }
+        ensures rest { OnOk result (self.new.rest.items ≡ []) }
+        ensures chunks { OnOk result
+            (self.new.chunks.items ≡ self.old.chunks.items ++ (self.old.rest.items ++ bytes.now) ∷ []) }
+        ensures bytes { OnOk result (self.new.bytes ≡ self.old.bytes + length bytes.now) }
+        ensures count { self.new.count ≡ self.old.count }
+        ensures ending { self.new.ending ≡ self.old.ending }
+    {
+        let mut chunk = mem::replace(&mut self.rest, Vec::new(self.alloc));
+        chunk.reserve_exact(bytes.len())?;
+        chunk.extend_from_slice(bytes)?;
+        self.bytes += bytes.len() as u128;
+        self.chunks.push(Chunk::from_vec(chunk))?;
+        Ok(())
+    }
+
+    /// Adds bytes to what is left over, which make a line as long as it may be. The next byte is bad.
+    #[cold]
+    fn keep_too_long(&mut self, bytes: &[u8]) -> Result<(), NoMemory>
+        requires room { self.old.bytes + length bytes.now < 2 ^ 128 }
+        ensures seen { OnOk result (seen self.new ≡ too_long_at self.old bytes.now) }
+    {
+        self.keep(bytes)?;
+        self.ending = Ending::Bad {
+            code: 1,
+            place: self.bytes,
+        };
         Ok(())
     }
 
@@ -113,28 +160,6 @@ pub struct Blocks(pub usize);
 #[derive(Clone, Copy)]
 pub struct Frames(pub usize);
 
-impl ByteStep for Lines {
-    ghost use Rattle.ws_flow.specs.Stages.{line_byte};
-
-    ghost step = { λ s. line_byte s.0 };
-
-    fn step(&self, cut: &mut Cut, byte: u8) -> Result<(), NoMemory> {
-        if byte != b'\n' && cut.rest.len() >= self.0 {
-            cut.ending = Ending::Bad {
-                code: 1,
-                place: cut.bytes,
-            };
-            return Ok(());
-        }
-        cut.rest.push(byte)?;
-        cut.bytes += 1;
-        if byte == b'\n' {
-            cut.close_from(0)?;
-        }
-        Ok(())
-    }
-}
-
 impl ByteStep for Blocks {
     ghost use Rattle.ws_flow.specs.Stages.{block_byte};
 
@@ -144,7 +169,7 @@ impl ByteStep for Blocks {
         cut.rest.push(byte)?;
         cut.bytes += 1;
         if cut.rest.len() == self.0 {
-            cut.close_from(0)?;
+            cut.close_with_room(0)?;
         }
         Ok(())
     }
@@ -168,7 +193,7 @@ impl ByteStep for Frames {
                 place: cut.bytes.saturating_sub(4),
             };
         } else if body.len() == length {
-            cut.close_from(4)?;
+            cut.close_with_room(4)?;
         }
         Ok(())
     }
@@ -197,6 +222,7 @@ fn before_feed(bytes: &[u8], most: usize) -> usize
     ensures within { result ≤ length bytes.now }
     ensures most { result ≤ most }
     ensures plain { HasNoFeed result bytes.now }
+    ensures stops { result < length bytes.now → result < most → slice_index bytes.now result ≡ 10 }
 {
     match memchr(b'\n', bytes) {
         Some(at) => at.min(most),
@@ -204,7 +230,7 @@ fn before_feed(bytes: &[u8], most: usize) -> usize
     }
 }
 
-/// Cuts these bytes into lines too, until one is bad: the bytes before a feed go over at once.
+/// Cuts these bytes into lines too, until one is bad: a line's bytes go over at once, with its feed.
 pub fn cut_lines(stage: &Lines, cut: &mut Cut, bytes: &[u8]) -> Result<(), NoMemory>
     requires room { cut.old.bytes + length bytes.now < 2 ^ 128 }
     requires fine { cut.old.ending ≡ Fine }
@@ -216,15 +242,17 @@ pub fn cut_lines(stage: &Lines, cut: &mut Cut, bytes: &[u8]) -> Result<(), NoMem
     let mut left = bytes;
     while !left.is_empty() {
         let room = stage.0.saturating_sub(cut.rest.len());
-        let (line, rest) = left.split_at(before_feed(left, room));
-        cut.keep(line)?;
-        let Some((byte, after)) = rest.split_first() else {
-            return Ok(());
-        };
-        stage.step(cut, *byte)?;
-        if let Ending::Bad { .. } = cut.ending {
+        let at = before_feed(left, room);
+        if at == left.len() {
+            cut.keep(left)?;
             return Ok(());
         }
+        if left[at] != b'\n' {
+            cut.keep_too_long(&left[..at])?;
+            return Ok(());
+        }
+        let (line, after) = left.split_at(at + 1);
+        cut.close_behind(line)?;
         left = after;
     }
     Ok(())

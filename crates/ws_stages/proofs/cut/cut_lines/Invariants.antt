@@ -12,6 +12,7 @@ invariant-loop-left l = record {
   seen : with_chunks l.cut.chunks.items (each_byte (line_byte l.stage.0) (kept_of l.cut) l.left) ≡ with_chunks l.fn.cut.chunks.items (each_byte (line_byte l.fn.stage.0) (kept_of l.fn.cut) l.fn.bytes);
   stage : l.stage ≡ l.fn.stage;
   count : l.cut.count ≡ l.fn.cut.count;
+  short : length l.left ≤ length l.fn.bytes;
   bytes : l.cut.bytes + length l.left ≤ l.fn.cut.bytes + length l.fn.bytes;
 }
 
