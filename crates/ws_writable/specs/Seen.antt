@@ -1,5 +1,5 @@
 -- What is seen of the record of a writable stream.
-use Rattle.std.specs.Prelude.{ℕ, ◌+◌, ◌-◌, ◌≤◌, Bool, true, false, ◌&&◌, nat_le, Option, Some, None, length}
+use Rattle.std.specs.Prelude.{ℕ, ◌+◌, ◌-◌, ◌≤◌, ◌==◌, Bool, true, false, ◌&&◌, nat_le, Option, Some, None, is_none, length}
 use Rattle.ws_value.specs.declared.ids.StreamId.{StreamId}
 use Rattle.ws_value.specs.declared.value.Value.{Value}
 use Rattle.ws_promise.specs.Seen.{Seen, SeenAgenda, out_of, HasPromiseRoom, HasEventRoom}
@@ -8,6 +8,7 @@ use Rattle.ws_steps.specs.declared.writable.WritableOperation.{WritableOperation
 use Rattle.ws_steps.specs.declared.writable.WritableOperation.TheVariants.{Write, HandOn, WriteSettled}
 use Rattle.ws_steps.specs.declared.writable.WriteRecord.{WriteRecord}
 use Rattle.ws_steps.specs.declared.writable.WriteRecord.TheVariants.{Chunk, InFlight, CloseMark}
+use Rattle.ws_steps.specs.Queues.{is_empty}
 use Rattle.ws_steps.specs.Places.{own_writable, promises_alone, events_alone, queued_alone, requests_alone}
 use Rattle.ws_steps.specs.declared.effects.Effect.TheVariants.{WriteAlgorithm}
 use Rattle.ws_steps.specs.declared.transform.Taker.{Taker}
@@ -53,6 +54,10 @@ is_chunk None = false
 is_chunk (Some (Chunk v)) = true
 is_chunk (Some InFlight) = false
 is_chunk (Some CloseMark) = false
+
+-- whether the controller has started, no write is in flight, and none waits
+abbrev pub is_free : Slots → Bool
+is_free s = s.started && (is_none s.write_in_flight && ((length s.write_requests == 0) && is_empty s.queue))
 
 -- the write algorithm is caused, where it is
 abbrev pub writing_where : Bool → StreamId → Acts → Acts

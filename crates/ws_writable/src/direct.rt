@@ -2,9 +2,10 @@
 ghost use Rattle.std.specs.Prelude.{◌≡◌, Ok, true, false};
 ghost use Rattle.ws_promise.specs.Seen.{HasEffectRoom, HasPromiseRoom, Seen, SeenAgenda};
 ghost use Rattle.ws_steps.specs.Writable as rows;
+ghost use Rattle.ws_steps.specs.declared.effects.Effect.TheVariants.{WriteAlgorithm};
 ghost use Rattle.ws_steps.specs.declared.transform.Taker.{Taker};
 ghost use Rattle.ws_value.specs.declared.value.Plain.TheVariants.{Undefined};
-ghost use Rattle.ws_writable.specs.Seen.{HasQueueRoom, HasRequestRoom, acts_of, handing, writing_where};
+ghost use Rattle.ws_writable.specs.Seen.{HasQueueRoom, HasRequestRoom, acts_of, handing, is_free, writing_where};
 
 use crate::Writable;
 use ws_promise::{Agenda, Promises};
@@ -89,6 +90,35 @@ impl Writable {
         self.writes(me, p, fx)
     }
 
+    /// Whether a write that comes now is performed at once.
+    #[inline(always)]
+    fn is_free(&self) -> bool
+        ensures { result ≡ is_free self.now.slots }
+    {
+        self.started
+            && self.write_in_flight.is_none()
+            && self.write_requests.is_empty()
+            && self.queue.is_empty()
+    }
+
+    /// WritableStreamAddWriteRequest and WritableStreamDefaultControllerWrite, where the write is performed at once.
+    #[inline(always)]
+    fn write_at_once(&mut self, p: &mut Promises, chunk: Value, promise: PromiseId)
+        requires queue_room { HasQueueRoom 1 self.old }
+        requires promise_room { HasPromiseRoom 1 p.old }
+        requires free { is_free self.old.slots ≡ true }
+        requires steady { rows.is_erroring self.old.slots.state ≡ false }
+        ensures row { (me : StreamId) (fx : SeenAgenda)
+            → rows.controller_write me chunk (rows.add_write_request promise (acts_of self.old p.old fx))
+            ≡ rows.causing (WriteAlgorithm me) (acts_of self.new p.new fx) }
+        ensures room { self.new.room ≡ self.old.room }
+        ensures promise_room { p.new.room ≡ p.old.room }
+    {
+        self.enqueue_chunk(chunk);
+        self.refresh_backpressure(p);
+        self.write_in_flight = Some(promise);
+    }
+
     /// WritableStreamDefaultWriterWrite, where the writer has the stream, with the promise that it answers: whether
     /// the write algorithm is to be performed.
     #[inline(always)]
@@ -118,6 +148,10 @@ impl Writable {
                 false
             }
             None => {
+                if self.is_free() {
+                    self.write_at_once(p, chunk, promise);
+                    return true;
+                }
                 self.add_write_request(promise);
                 self.controller_write(me, p, fx, chunk)
             }
@@ -135,9 +169,9 @@ impl Writable {
         if !self.is_chunk_first() {
             return None;
         }
-        let Some(WriteRecord::Chunk(chunk)) = self.queue.take_first(WriteRecord::InFlight) else {
-            unreachable!()
-        };
-        Some(chunk)
+        match self.queue.take_first(WriteRecord::InFlight) {
+            Some(WriteRecord::Chunk(chunk)) => Some(chunk),
+            _ => None,
+        }
     }
 }

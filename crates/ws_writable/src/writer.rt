@@ -80,6 +80,7 @@ impl Writable {
         self.write_requests.push_back_reserved(promise);
     }
 
+    #[inline(always)]
     pub(crate) fn enqueue_chunk(&mut self, chunk: Value)
         requires queue_room { HasQueueRoom 1 self.old }
         ensures row { (p : Seen) (fx : SeenAgenda) → acts_of self.new p fx
