@@ -72,6 +72,15 @@ after-ready es gs fs t u room reached =
 pub after-then : (es gs : List Effect) (t u v : Tables) → PerformsDirectly es t u → PerformsAfter gs u v → PerformsDirectly (es ++ gs) t v
 after-then es gs t u v a b = then (es ++ gs) (u.caused.effects ++ gs) v.caused.effects t u v (beside es u.caused.effects gs t u a) b
 
+-- what comes of the first of two parts is performed, and then the second behind what that left
+
+pub ready-after : (e : Effect) (es gs : List Effect) (t z u : Tables) → PerformsDirectly es z u → HasRoomForAll (e ∷ []) t → Reaches (e ∷ []) t (es ++ gs) z → IsReadyAfter gs u
+ready-after e es gs t z u done room reached =
+    after-ready es gs [] z u (subst (λ xs. HasRoomForAll xs z) (append_assoc es gs []) (reached.room [] room)) done
+
+pub then-after : (e : Effect) (es gs : List Effect) (t z u v : Tables) → PerformsDirectly es z u → PerformsAfter gs u v → Reaches (e ∷ []) t (es ++ gs) z → PerformsDirectly (e ∷ []) t v
+then-after e es gs t z u v done after reached = then (e ∷ []) (es ++ gs) v.caused.effects t z v reached (after-then es gs z u v done after)
+
 -- they are performed where nothing is left
 
 pub after-none : (es : List Effect) (t t' : Tables) → t.caused.effects ≡ [] → PerformsDirectly es t t' → PerformsAfter es t t'

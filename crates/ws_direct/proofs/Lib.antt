@@ -3,6 +3,7 @@ pub mod Behind
 pub mod Steps
 pub mod Streams
 pub mod Told
+pub mod Losing
 pub mod Transforms
 pub mod Writables
 pub mod Flowing

@@ -7,10 +7,9 @@ use Rattle.ws_value.specs.declared.ids.PromiseId.{PromiseId}
 use Rattle.ws_value.specs.declared.ids.StreamId.{StreamId}
 use Rattle.ws_value.specs.declared.value.Value.{Value}
 use Rattle.ws_steps.specs.declared.effects.Effect.{Effect}
-use Rattle.ws_steps.specs.declared.effects.Effect.TheVariants.{ChunkSteps, PullAlgorithm, Readable, Writable}
+use Rattle.ws_steps.specs.declared.effects.Effect.TheVariants.{PullAlgorithm, Readable, Writable}
 use Rattle.ws_steps.specs.declared.pipes.Ends.{Ends}
 use Rattle.ws_steps.specs.declared.promises.Step.TheVariants.{PipeReady}
-use Rattle.ws_steps.specs.declared.readable.ReadRequest.{ReadRequest}
 use Rattle.ws_steps.specs.declared.readable.ReadRequest.TheVariants.{Pipe as PipeRequest}
 use Rattle.ws_steps.specs.declared.readable.ReadableOperation.TheVariants.{Read}
 use Rattle.ws_steps.specs.declared.readable.ReadableState.TheVariants.{Readable as IsReadable}
@@ -72,16 +71,6 @@ handed i taker (Some v) = taken_by i v taker ∷ []
 abbrev pub pulls_told : Bool → StreamId → List Effect
 pulls_told true i = PullAlgorithm i ∷ []
 pulls_told false i = []
-
--- the chunk steps of a request, where there is a chunk for it
-abbrev pub given : StreamId → ReadRequest → Option Value → List Effect
-given i request None = []
-given i request (Some v) = ChunkSteps i request v ∷ []
-
--- of the request that waited for a chunk, where one did
-abbrev pub accepted : StreamId → Option (ReadRequest × Value) → List Effect
-accepted i None = []
-accepted i (Some (request, v)) = ChunkSteps i request v ∷ []
 
 -- what a pipe does next, which comes alone, and else what it caused
 abbrev pub looks_told : PipeId → List Effect → PipeNext → List Effect

@@ -5,20 +5,21 @@ ghost use Rattle.ws_steps.specs.declared.effects.Gift.TheVariants as gift;
 ghost use Rattle.ws_steps.specs.declared.effects.Use.TheVariants as usage;
 ghost use Rattle.ws_steps.specs.declared.pipes.PipeOperation.TheVariants as pipe;
 ghost use Rattle.ws_steps.specs.declared.promises.Step.TheVariants as step;
+ghost use Rattle.ws_steps.specs.declared.readable.ReadRequest.TheVariants as request_of;
 ghost use Rattle.ws_steps.specs.declared.transform.TransformOperation.TheVariants as transform;
 ghost use Rattle.ws_steps.specs.Pipes.{reacts};
 ghost use Rattle.ws_direct.specs.Directly.{IsReadyAfter, PerformsAfter, pulls_told};
 
 use crate::enqueues::enqueued;
 use crate::left::{
-    leave_chunk, leave_enqueued, leave_look, leave_pull, leave_resolve, leave_write, leave_wrote,
+    leave_enqueued, leave_kept, leave_look, leave_pull, leave_resolve, leave_write, leave_wrote,
 };
 use crate::pipes::go_on;
 use crate::promises::react;
 use crate::pulls::pull;
-use crate::reads::hand;
+use crate::reads::keep_chunk;
 use ws_jobs::Short;
-use ws_steps::{ReadRequest, TransformId};
+use ws_steps::TransformId;
 use ws_tables::Tables;
 use ws_value::{PipeId, PromiseId, StreamId, Value};
 
@@ -87,14 +88,14 @@ pub(crate) fn pull_after(tables: &mut Tables, i: StreamId, pulls: bool)
 }
 
 #[inline(always)]
-pub(crate) fn hand_after(tables: &mut Tables, i: StreamId, request: ReadRequest, chunk: Value)
-    requires { IsReadyAfter (effect.ChunkSteps i request chunk ∷ []) tables.old }
-    ensures { PerformsAfter (effect.ChunkSteps i request chunk ∷ []) tables.old tables.new }
+pub(crate) fn keep_after(tables: &mut Tables, i: StreamId, p: PipeId, chunk: Value)
+    requires { IsReadyAfter (effect.ChunkSteps i (request_of.Pipe p) chunk ∷ []) tables.old }
+    ensures { PerformsAfter (effect.ChunkSteps i (request_of.Pipe p) chunk ∷ []) tables.old tables.new }
 {
     if tables.caused.len() == 0 {
-        hand(tables, i, request, chunk);
+        keep_chunk(tables, p, chunk);
     } else {
-        leave_chunk(tables, i, request, chunk);
+        leave_kept(tables, i, p, chunk);
     }
 }
 

@@ -1,9 +1,9 @@
 //! Chunks that are enqueued at the readable half of a transform stream.
-ghost use Rattle.std.specs.Prelude.{◌++◌, [], ◌∷◌};
+ghost use Rattle.std.specs.Prelude.{[], ◌∷◌};
 ghost use Rattle.ws_steps.specs.declared.effects.Effect.TheVariants as effect;
 ghost use Rattle.ws_steps.specs.declared.readable.ReadableOperation.TheVariants as readable;
 ghost use Rattle.ws_steps.specs.declared.transform.TransformOperation.TheVariants as transform;
-ghost use Rattle.ws_direct.specs.Directly.{IsReadyFor, PerformsDirectly, accepted, pulls_told};
+ghost use Rattle.ws_direct.specs.Directly.{IsReadyFor, PerformsDirectly};
 
 use crate::after::{enqueued_after, pull_after};
 use crate::growth::note_growth;
@@ -11,24 +11,9 @@ use crate::left::leave_enqueue;
 use crate::pulls::pull_where;
 use crate::reads::{hand, is_going};
 use ws_effects::transform_halves;
-use ws_steps::{ReadRequest, TransformId};
+use ws_steps::TransformId;
 use ws_tables::{LIST_PLACES, Stream, Tables};
 use ws_value::{StreamId, Value};
-
-/// The chunk is handed to the request that waited for it, where there was one, and then a pull.
-#[inline(always)]
-fn pass(tables: &mut Tables, i: StreamId, waiting: Option<(ReadRequest, Value)>, pulls: bool)
-    requires { IsReadyFor (accepted i waiting ++ pulls_told pulls i) tables.old }
-    ensures { PerformsDirectly (accepted i waiting ++ pulls_told pulls i) tables.old tables.new }
-{
-    match waiting {
-        Some((request, chunk)) => {
-            hand(tables, i, request, chunk);
-            pull_after(tables, i, pulls);
-        }
-        None => pull_where(tables, i, pulls),
-    }
-}
 
 /// ReadableStreamDefaultControllerEnqueue.
 fn accept(tables: &mut Tables, i: StreamId, chunk: Value)
@@ -41,13 +26,19 @@ fn accept(tables: &mut Tables, i: StreamId, chunk: Value)
     }
     match &mut tables.streams[i.0 as usize] {
         Stream::Readable(stream) => {
-            let had_room = stream.has_room(LIST_PLACES);
-            let waited = stream.waiting_requests();
-            let (waiting, pulls) = stream.enqueue_directly(chunk);
-            tables.waiting = tables.waiting - waited + stream.waiting_requests();
-            let has_room = stream.has_room(LIST_PLACES);
-            note_growth(tables, i, had_room, has_room);
-            pass(tables, i, waiting, pulls);
+            if stream.has_waiting_request() {
+                let request = stream.hand_directly();
+                let pulls = stream.pulls_directly();
+                tables.waiting -= 1;
+                hand(tables, i, request, chunk);
+                pull_after(tables, i, pulls);
+            } else {
+                let loses_room = stream.loses_room_by_chunk(LIST_PLACES);
+                stream.keep_directly(chunk);
+                let pulls = stream.pulls_directly();
+                note_growth(tables, i, loses_room, false);
+                pull_where(tables, i, pulls);
+            }
         }
         Stream::Bytes(_) | Stream::Writable(_) => unreachable!(),
     }

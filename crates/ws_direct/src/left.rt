@@ -7,6 +7,7 @@ ghost use Rattle.ws_steps.specs.declared.effects.Gift.TheVariants as gift;
 ghost use Rattle.ws_steps.specs.declared.effects.Use.TheVariants as usage;
 ghost use Rattle.ws_steps.specs.declared.pipes.PipeOperation.TheVariants as pipe;
 ghost use Rattle.ws_steps.specs.declared.promises.Step.TheVariants as step;
+ghost use Rattle.ws_steps.specs.declared.readable.ReadRequest.TheVariants as request_of;
 ghost use Rattle.ws_steps.specs.declared.readable.ReadableOperation.TheVariants as readable;
 ghost use Rattle.ws_steps.specs.declared.transform.TransformOperation.TheVariants as transform;
 ghost use Rattle.ws_steps.specs.Pipes.{reacts};
@@ -98,13 +99,23 @@ pub(crate) fn leave_chunk(tables: &mut Tables, i: StreamId, request: ReadRequest
 
 #[cold]
 #[inline(never)]
-pub(crate) fn leave_read(tables: &mut Tables, i: StreamId, request: ReadRequest)
+pub(crate) fn leave_read(tables: &mut Tables, i: StreamId, p: PipeId)
     requires { HasEffectRoom 1 tables.old.caused }
-    ensures { tables.new ≡ leaving (effect.Readable i (readable.Read request)) tables.old }
+    ensures { tables.new ≡ leaving (effect.Readable i (readable.Read (request_of.Pipe p))) tables.old }
 {
+    let request = ReadRequest::Pipe(p);
     tables
         .caused
         .push(Effect::Readable(i, ReadableOperation::Read(request)));
+}
+
+#[cold]
+#[inline(never)]
+pub(crate) fn leave_kept(tables: &mut Tables, i: StreamId, p: PipeId, chunk: Value)
+    requires { HasEffectRoom 1 tables.old.caused }
+    ensures { tables.new ≡ leaving (effect.ChunkSteps i (request_of.Pipe p) chunk) tables.old }
+{
+    leave_chunk(tables, i, ReadRequest::Pipe(p), chunk);
 }
 
 #[cold]

@@ -14,7 +14,7 @@ use crate::writes::write;
 use ws_effects::pipe_ends;
 use ws_jobs::Short;
 use ws_pipe::{PipeLook, PipeNext};
-use ws_steps::{ReadRequest, ReadableState, WritableState};
+use ws_steps::{ReadableState, WritableState};
 use ws_tables::{Stream, Tables};
 use ws_value::{PipeId, PromiseId, StreamId};
 
@@ -93,7 +93,7 @@ fn look(tables: &mut Tables, p: PipeId, look: PipeLook)
     }
     match look_at_ends(tables, p, look) {
         PipeNext::Nothing => {}
-        PipeNext::Read(source) => read(tables, source, ReadRequest::Pipe(p)),
+        PipeNext::Read(source) => read(tables, source, p),
         PipeNext::Wait(ready) => {
             react(tables, ready, Short::PipeReady(p.0 as u64));
         }

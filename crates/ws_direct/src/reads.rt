@@ -1,14 +1,15 @@
 //! Reads of a pipe, and the chunk that comes.
-ghost use Rattle.std.specs.Prelude.{◌≡◌, ◌&&◌, ◌++◌, [], ◌∷◌};
+ghost use Rattle.std.specs.Prelude.{◌≡◌, ◌&&◌, [], ◌∷◌};
 ghost use Rattle.ws_steps.specs.Slots.{has_readable, readable_at};
 ghost use Rattle.ws_steps.specs.Readable.{can_close_or_enqueue};
 ghost use Rattle.ws_steps.specs.declared.effects.Effect.TheVariants as effect;
 ghost use Rattle.ws_steps.specs.declared.pipes.PipeOperation.TheVariants as pipe;
+ghost use Rattle.ws_steps.specs.declared.readable.ReadRequest.TheVariants as request_of;
 ghost use Rattle.ws_steps.specs.declared.readable.ReadableOperation.TheVariants as readable;
 ghost use Rattle.ws_tables.specs.View.{slots_of};
-ghost use Rattle.ws_direct.specs.Directly.{IsReadyFor, PerformsDirectly, given, pulls_told};
+ghost use Rattle.ws_direct.specs.Directly.{IsReadyFor, PerformsDirectly};
 
-use crate::after::hand_after;
+use crate::after::keep_after;
 use crate::growth::note_growth;
 use crate::left::{leave_chunk, leave_read};
 use crate::pulls::pull_where;
@@ -17,7 +18,8 @@ use ws_tables::{LIST_PLACES, Stream, Tables};
 use ws_value::{PipeId, StreamId, Value};
 
 /// A pipe keeps the chunk that it read.
-fn keep_chunk(tables: &mut Tables, p: PipeId, chunk: Value)
+#[inline(always)]
+pub(crate) fn keep_chunk(tables: &mut Tables, p: PipeId, chunk: Value)
     requires { IsReadyFor (effect.Pipe p (pipe.KeepChunk chunk) ∷ []) tables.old }
     ensures { PerformsDirectly (effect.Pipe p (pipe.KeepChunk chunk) ∷ []) tables.old tables.new }
 {
@@ -51,39 +53,30 @@ pub(crate) fn is_going(tables: &Tables, i: StreamId) -> bool
     }
 }
 
-/// The chunk that was read is handed to the request, where there is one, after a pull.
-#[inline(always)]
-fn give(tables: &mut Tables, i: StreamId, request: ReadRequest, chunk: Option<Value>, pulls: bool)
-    requires { IsReadyFor (pulls_told pulls i ++ given i request chunk) tables.old }
-    ensures { PerformsDirectly (pulls_told pulls i ++ given i request chunk) tables.old tables.new }
-{
-    match chunk {
-        Some(chunk) => {
-            pull_where(tables, i, pulls);
-            hand_after(tables, i, request, chunk);
-        }
-        None => pull_where(tables, i, pulls),
-    }
-}
-
 /// A pipe reads.
-pub(crate) fn read(tables: &mut Tables, i: StreamId, request: ReadRequest)
-    requires { IsReadyFor (effect.Readable i (readable.Read request) ∷ []) tables.old }
-    ensures { PerformsDirectly (effect.Readable i (readable.Read request) ∷ []) tables.old tables.new }
+pub(crate) fn read(tables: &mut Tables, i: StreamId, p: PipeId)
+    requires { IsReadyFor (effect.Readable i (readable.Read (request_of.Pipe p)) ∷ []) tables.old }
+    ensures { PerformsDirectly (effect.Readable i (readable.Read (request_of.Pipe p)) ∷ []) tables.old tables.new }
 {
     if !is_going(tables, i) {
-        leave_read(tables, i, request);
+        leave_read(tables, i, p);
         return;
     }
     match &mut tables.streams[i.0 as usize] {
         Stream::Readable(stream) => {
-            let had_room = stream.has_room(LIST_PLACES);
-            let waited = stream.waiting_requests();
-            let (chunk, pulls) = stream.read_directly(request);
-            tables.waiting = tables.waiting - waited + stream.waiting_requests();
-            let has_room = stream.has_room(LIST_PLACES);
-            note_growth(tables, i, had_room, has_room);
-            give(tables, i, request, chunk, pulls);
+            if stream.has_chunk() {
+                let chunk = stream.take_directly();
+                let pulls = stream.pulls_directly();
+                pull_where(tables, i, pulls);
+                keep_after(tables, i, p, chunk);
+            } else {
+                let loses_room = stream.loses_room_by_request(LIST_PLACES);
+                stream.wait_directly(ReadRequest::Pipe(p));
+                let pulls = stream.pulls_directly();
+                tables.waiting += 1;
+                note_growth(tables, i, loses_room, false);
+                pull_where(tables, i, pulls);
+            }
         }
         Stream::Bytes(_) | Stream::Writable(_) => unreachable!(),
     }

@@ -21,10 +21,7 @@ impl Readable {
     pub fn should_call_pull(&self) -> bool
         ensures { result ≡ rows.should_call_pull self.now.slots }
     {
-        self.can_close_or_enqueue()
-            && self.started
-            && (self.reader.is_some() && !self.requests.is_empty()
-                || self.queue.total() < u128::from(self.hwm))
+        self.can_close_or_enqueue() && self.wants_pull()
     }
 
     /// Performs the pull algorithm, or, where it is pulling already, pulls again afterwards.
@@ -72,11 +69,13 @@ impl Readable {
         if !self.can_close_or_enqueue() {
             return;
         }
-        let (waiting, pulls) = self.enqueue_directly(chunk);
-        if let Some((request, chunk)) = waiting {
+        if self.has_waiting_request() {
+            let request = self.hand_directly();
             fx.push(Effect::ChunkSteps(me, request, chunk));
+        } else {
+            self.keep_directly(chunk);
         }
-        if pulls {
+        if self.pulls_directly() {
             fx.push(Effect::PullAlgorithm(me));
         }
     }

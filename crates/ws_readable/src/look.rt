@@ -1,5 +1,6 @@
 //! What a host may look at.
-ghost use Rattle.std.specs.Prelude.{◌≡◌, length};
+ghost use Rattle.std.specs.Prelude.{◌≡◌, ◌==◌, ◌-◌, ◌&&◌, not, nat_le, length};
+ghost use Rattle.ws_steps.specs.Queues as queues;
 ghost use Rattle.ws_steps.specs.Readable as rows;
 ghost use Rattle.ws_steps.specs.ReadableLooks as looks;
 ghost use Rattle.ws_readable.specs.Seen.{has_room};
@@ -40,6 +41,39 @@ impl Readable {
         ensures { result ≡ has_room n self.now }
     {
         n <= self.queue.free() && n <= self.requests.capacity() - self.requests.len()
+    }
+
+    /// Whether there are places for `n` more chunks and read requests, but no longer after one more read request.
+    #[inline(always)]
+    pub fn loses_room_by_request(&self, n: usize) -> bool
+        ensures { result ≡ ((self.now.room.requests - length self.now.slots.requests == n)
+            && nat_le n (self.now.room.queue - length self.now.slots.queue)) }
+    {
+        self.requests.capacity() - self.requests.len() == n && n <= self.queue.free()
+    }
+
+    /// Whether there are places for `n` more chunks and read requests, but no longer after one more chunk.
+    #[inline(always)]
+    pub fn loses_room_by_chunk(&self, n: usize) -> bool
+        ensures { result ≡ ((self.now.room.queue - length self.now.slots.queue == n)
+            && nat_le n (self.now.room.requests - length self.now.slots.requests)) }
+    {
+        self.queue.free() == n && n <= self.requests.capacity() - self.requests.len()
+    }
+
+    /// Whether the stream is locked and a read request waits.
+    #[inline(always)]
+    pub fn has_waiting_request(&self) -> bool
+        ensures { result ≡ not (queues.is_empty (rows.waiting self.now.slots)) }
+    {
+        self.reader.is_some() && !self.requests.is_empty()
+    }
+
+    #[inline(always)]
+    pub fn has_chunk(&self) -> bool
+        ensures { result ≡ not (queues.is_empty self.now.slots.queue) }
+    {
+        !self.queue.is_empty()
     }
 
     /// How many read requests wait.
