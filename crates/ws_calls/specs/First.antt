@@ -1,6 +1,8 @@
 -- The one effect of a job that each chunk meets on its way through a pipe.
-use Rattle.std.specs.Prelude.{◌≡◌, false, Ok, Some, [], ◌∷◌}
+use Rattle.std.specs.Prelude.{◌≡◌, Bool, true, false, Ok, Some, [], ◌∷◌}
 use Rattle.ws_value.specs.declared.value.Plain.TheVariants.{Undefined}
+use Rattle.ws_jobs.specs.declared.short.Short.{Short}
+use Rattle.ws_jobs.specs.declared.short.Short.TheVariants as short
 use Rattle.ws_steps.specs.declared.effects.Effect.{Effect}
 use Rattle.ws_steps.specs.declared.effects.Effect.TheVariants.{Readable, Writable, Pipe, Transform, Settle}
 use Rattle.ws_steps.specs.declared.pipes.PipeOperation.TheVariants.{WriteChunk, LookReady, WriteEnded}
@@ -28,6 +30,19 @@ effect_of (PipeReady p) = Pipe p LookReady
 effect_of (PipeWrote p) = Pipe p WriteEnded
 effect_of (WriteGoesOn t d) = Transform t (TransformGoesOn d)
 effect_of (Fulfils p) = Settle p (Ok Undefined)
+
+-- a job stands whole in another queue
+abbrev pub is_whole : Short → Bool
+is_whole short.Whole = true
+is_whole (short.Pulled i) = false
+is_whole (short.Wrote i) = false
+is_whole (short.PipeReady n) = false
+is_whole (short.PipeWrote n) = false
+is_whole (short.Changed t n) = false
+is_whole (short.Transformed t n) = false
+is_whole (short.Adopt n) = false
+is_whole (short.PipeWrite n) = false
+is_whole (short.Follow p q) = false
 
 -- the first job is taken out of the queue
 abbrev pub without_first : Tables → Tables

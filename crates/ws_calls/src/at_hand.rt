@@ -18,7 +18,7 @@ use ws_tables::Tables;
 use ws_value::{StreamId, Value};
 
 /// For how many jobs places are looked for at once.
-const MOST: u32 = 8;
+const MOST: u32 = 16;
 
 /// Up to so many read requests are reckoned with.
 const FEW: usize = 0x7fff_ffff;
@@ -51,7 +51,7 @@ fn has_turns(tables: &Tables, n: usize) -> bool
 
 /// Whether there are places for `n` jobs.
 fn has_places(tables: &Tables, n: u32) -> bool
-    requires few { n ≤ 8 }
+    requires few { n ≤ 16 }
     requires resting { IsResting tables.now }
     ensures { result ≡ true → HasPlacesFor n tables.now }
 {
@@ -74,20 +74,12 @@ fn has_places(tables: &Tables, n: u32) -> bool
     true
 }
 
-/// For how many jobs there are places, of eight at most.
+/// For how many jobs places were found: where there aren't as many as are looked for, none.
 pub fn count_places(tables: &Tables) -> u32
     requires resting { IsResting tables.now }
     ensures { AreFound result tables.now }
 {
-    if has_places(tables, MOST) {
-        MOST
-    } else if has_places(tables, 3) {
-        3
-    } else if has_places(tables, 1) {
-        1
-    } else {
-        0
-    }
+    if has_places(tables, MOST) { MOST } else { 0 }
 }
 
 /// Whether no stream waits for places in its lists, and there is no tee.

@@ -1,13 +1,13 @@
 //! The jobs that each chunk meets on its way through a pipe. Each has one effect, which is performed at once, with what
 //! comes of it.
-ghost use Rattle.std.specs.Prelude.{◌≡◌, ◌+◌, ℕ, [], ◌∷◌, Some, IfSome, option_map, true, false};
+ghost use Rattle.std.specs.Prelude.{◌≡◌, ◌+◌, ℕ, [], ◌∷◌, Some, IfNone, IfSome, option_map, true, false};
 ghost use Rattle.ws_steps.specs.Jobs.{job_effects};
 ghost use Rattle.ws_jobs.specs.Shorts.{job_in};
 ghost use Rattle.ws_direct.specs.Directly.{IsReadyFor, PerformsDirectly};
 ghost use Rattle.ws_effects.specs.Performing.{Performs};
 ghost use Rattle.ws_tables.specs.Room.{IsResting, KeepsRecords};
 ghost use Rattle.ws_calls.specs.Credit.{HasPlacesFor, IsAtHand};
-ghost use Rattle.ws_calls.specs.First.{Began, FitsFirst, effect_of};
+ghost use Rattle.ws_calls.specs.First.{Began, FitsFirst, effect_of, is_whole};
 ghost use Rattle.ws_calls.specs.declared.first.First.TheVariants as first;
 
 use ws_direct::{pipe_ready, pipe_writes, pipe_wrote, pulled, write_goes_on, wrote};
@@ -35,10 +35,12 @@ pub(crate) enum First {
     Fulfils(PromiseId),
 }
 
-/// The effect of a job in its short form, where it has one alone.
+/// The effect of a job in its short form, where it has one alone. One by which a promise follows another has none.
 #[inline(always)]
 fn first_of(short: &Short) -> Option<First>
-    ensures { IfSome result (λ first. option_map job_effects (job_in short.now) ≡ Some (effect_of first ∷ [])) }
+    requires { is_whole short.now ≡ false }
+    ensures one { IfSome result (λ first. option_map job_effects (job_in short.now) ≡ Some (effect_of first ∷ [])) }
+    ensures none { IfNone result (option_map job_effects (job_in short.now) ≡ Some []) }
 {
     match short {
         Short::Whole => None,
@@ -54,15 +56,12 @@ fn first_of(short: &Short) -> Option<First>
     }
 }
 
-/// Whether the job has no effect, as one by which a promise follows another.
+/// Whether a job stands whole in another queue.
 #[inline(always)]
-fn is_follow(short: &Short) -> bool
-    ensures { result ≡ true → option_map job_effects (job_in short.now) ≡ Some [] }
+fn is_whole(short: &Short) -> bool
+    ensures { result ≡ is_whole short.now }
 {
-    match short {
-        Short::Follow(_, _) => true,
-        _ => false,
-    }
+    matches!(short, Short::Whole)
 }
 
 /// Fulfils a promise with undefined.
@@ -110,14 +109,13 @@ pub(crate) fn begin_first(tables: &mut Tables) -> bool
     ensures untouched { result ≡ false → tables.new ≡ tables.old }
 {
     let short = tables.promises.first_short();
-    let Some(first) = first_of(&short) else {
-        if is_follow(&short) {
-            tables.promises.drop_first_job();
-            return true;
-        }
+    if is_whole(&short) {
         return false;
-    };
+    }
     tables.promises.drop_first_job();
+    let Some(first) = first_of(&short) else {
+        return true;
+    };
     perform(tables, first);
     true
 }

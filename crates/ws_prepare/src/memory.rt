@@ -1,6 +1,7 @@
 //! The taking of memory before a call or a job.
-ghost use Rattle.std.specs.Prelude.{◌≡◌, ◌+◌, ◌<◌, ◌^◌, true, IfSome, IsOk, OnOk, vec_len};
+ghost use Rattle.std.specs.Prelude.{◌≡◌, ◌+◌, ◌<◌, ◌≤◌, ◌^◌, true, IfSome, IsOk, OnOk, vec_len};
 ghost use Rattle.ws_tables.specs.Room.{EachHasCopies, EachHasMembers, EachHasPlaces, HaveMembers, IsCopied, IsCovered, IsPrepared, IsReady, IsResting};
+ghost use Rattle.ws_prepare.specs.declared.memory.TheConstants.{PLACES_FOR_ANY, PLACES_FOR_SEVERAL};
 ghost use Rattle.ws_prepare.specs.Preparing.{HasMembersAt, HasNotes, HasPlacesAt, HasRecords, HasTurns, IsMade, MembersGrow, PlacesStay, StaysBesideAgenda, StaysBesideSignals, StaysBesideStreams, StaysBesideTees, base_places};
 ghost use Rattle.ws_tables.specs.View.{slots_of};
 
@@ -14,8 +15,16 @@ const PLACES_FOR_EACH: usize = 15;
 /// And how many for what any call or job takes by itself.
 const PLACES_FOR_ANY: usize = 34;
 
-/// At least so many are made at once, which serve eight of the jobs that each chunk meets, one after another.
-const LEAST_PLACES: usize = 230;
+/// Where a job or an enqueuing finds fewer, more are made before it: so many serve sixteen of the jobs that each chunk
+/// meets, one after another.
+const PLACES_FOR_SEVERAL: usize = 230;
+
+/// At least so many are made at once.
+const LEAST_PLACES: usize = 512;
+
+/// Where the agenda gets places, it gets so many more, so that it needn't be moved again where a few more read requests
+/// wait.
+const SPARE_TURNS: usize = 64;
 
 /// Up to so many read requests, aborts and tees the places for them are reckoned without a look for an overflow.
 const FEW: usize = 0x7fff_ffff;
@@ -81,12 +90,12 @@ fn has_records(tables: &Tables) -> bool
         && tables.signals.len() < tables.signals.capacity()
 }
 
-/// Whether there is all memory for what the next call or job adds to the records that there are, where `base` places
-/// serve any list.
+/// Whether there is all memory for what the next call or job adds to the records that there are, and `base` places in
+/// any list.
 #[inline]
 fn has_places(tables: &Tables, base: usize) -> bool
     requires resting { IsResting tables.now }
-    requires base { base ≡ base_places tables.now }
+    requires base { base_places tables.now ≤ base }
     requires small { base + tables.now.waiting + tables.now.waiting < 2 ^ 64 }
     ensures { result ≡ true → IsReady tables.now }
 {
@@ -104,23 +113,25 @@ fn has_places(tables: &Tables, base: usize) -> bool
     has_notes(tables, base)
 }
 
-/// Whether there is all memory for what the next call or job adds to the records that there are. Mostly no signal would
-/// abort a pipe and no tee is there, and then the places are those that any call or job takes.
+/// Whether there is all memory for what the next call or job adds to the records that there are, and `any` places in
+/// any list beside those for aborts and tees. Mostly no signal would abort a pipe and no tee is there.
 #[inline]
-fn is_ready(tables: &Tables) -> bool
+fn is_ready(tables: &Tables, any: usize) -> bool
     requires resting { IsResting tables.now }
+    requires least { PLACES_FOR_ANY ≤ any }
+    requires few { any ≤ PLACES_FOR_SEVERAL }
     ensures { result ≡ true → IsReady tables.now }
 {
     if tables.waiting > FEW {
         return false;
     }
     if tables.aborts == 0 && tables.tees.len() == 0 {
-        return has_places(tables, PLACES_FOR_ANY);
+        return has_places(tables, any);
     }
     if tables.aborts > FEW || tables.tees.len() > FEW {
         return false;
     }
-    let base = (tables.aborts + tables.tees.len()) * PLACES_FOR_EACH + PLACES_FOR_ANY;
+    let base = (tables.aborts + tables.tees.len()) * PLACES_FOR_EACH + any;
     has_places(tables, base)
 }
 
@@ -222,9 +233,15 @@ fn prepare_agenda(tables: &mut Tables, turns: usize) -> Result<(), NoMemory>
     ensures resting { IsResting tables.new }
     ensures rest { StaysBesideAgenda tables.old tables.new }
 {
-    tables.caused.reserve(turns)?;
-    tables.others.reserve(turns)?;
-    tables.under_way.reserve(turns)?;
+    if has_turns(tables, turns) {
+        return Ok(());
+    }
+    let Some(many) = turns.checked_add(SPARE_TURNS) else {
+        return Err(NoMemory);
+    };
+    tables.caused.reserve(many)?;
+    tables.others.reserve(many)?;
+    tables.under_way.reserve(many)?;
     Ok(())
 }
 
@@ -277,14 +294,29 @@ pub fn prepare(tables: &mut Tables) -> Result<(), NoMemory>
     ensures slots { slots_of tables.new ≡ slots_of tables.old }
     ensures resting { IsResting tables.new }
 {
-    if is_ready(tables) && has_records(tables) {
+    if is_ready(tables, PLACES_FOR_ANY) && has_records(tables) {
         return Ok(());
     }
     take_all(tables)
 }
 
+/// Takes memory for several jobs. Where that can't be had, what is there may serve the next one.
+#[cold]
+#[inline(never)]
+fn take_for_several(tables: &mut Tables) -> Result<(), NoMemory>
+    requires resting { IsResting tables.old }
+    ensures ok { OnOk result (IsReady tables.new) }
+    ensures slots { slots_of tables.new ≡ slots_of tables.old }
+    ensures resting { IsResting tables.new }
+{
+    match take_all(tables) {
+        Err(NoMemory) if !is_ready(tables, PLACES_FOR_ANY) => Err(NoMemory),
+        _ => Ok(()),
+    }
+}
+
 /// Takes all memory that the next job can need, or the enqueuing of a chunk, unless it was taken for any call: neither
-/// makes a record.
+/// makes a record. Memory for several is taken at once.
 #[inline]
 pub fn prepare_work(tables: &mut Tables, prepared: bool) -> Result<(), NoMemory>
     requires resting { IsResting tables.old }
@@ -294,8 +326,8 @@ pub fn prepare_work(tables: &mut Tables, prepared: bool) -> Result<(), NoMemory>
     ensures resting { IsResting tables.new }
     ensures prepared { prepared ≡ true → IsOk result }
 {
-    if prepared || is_ready(tables) {
+    if prepared || is_ready(tables, PLACES_FOR_SEVERAL) {
         return Ok(());
     }
-    take_all(tables)
+    take_for_several(tables)
 }

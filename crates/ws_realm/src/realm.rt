@@ -150,6 +150,9 @@ impl Realm {
         if self.tables.age == OLDEST {
             return Err(Why::Spent);
         }
+        if self.places == 0 {
+            self.find_places();
+        }
         match enqueue_at_hand(&mut self.tables, i, chunk, self.places) {
             Ok(left) => {
                 self.prepared = false;
@@ -160,7 +163,15 @@ impl Realm {
         }
     }
 
-    /// The same after the places were looked for.
+    /// Looks for how many jobs there are places.
+    #[inline(never)]
+    fn find_places(&mut self)
+        ensures { self.new ≡ self.old }
+    {
+        self.places = count_places(&self.tables);
+    }
+
+    /// The same, by a look for the places of this one alone.
     #[inline(never)]
     fn enqueue_prepared(&mut self, i: StreamId, chunk: Value) -> Result<bool, Why>
         requires young { self.old.slots.age < oldest }
@@ -176,9 +187,7 @@ impl Realm {
             return Err(Why::NoMemory);
         }
         self.prepared = false;
-        let done = perform_enqueue(&mut self.tables, i, chunk);
-        self.places = count_places(&self.tables);
-        Ok(done)
+        Ok(perform_enqueue(&mut self.tables, i, chunk))
     }
 
     /// Performs `Call::Deliver`, as each message of a port meets it. Whether there is such a port: else the call
@@ -237,6 +246,9 @@ impl Realm {
         if self.queued() == 0 {
             return Ok(false);
         }
+        if self.places == 0 {
+            self.find_places();
+        }
         match perform_at_hand(&mut self.tables, self.places) {
             Some(left) => {
                 self.prepared = false;
@@ -247,7 +259,7 @@ impl Realm {
         }
     }
 
-    /// The same after the places were looked for.
+    /// The same, by a look for the places of this one alone.
     #[inline(never)]
     fn job_prepared(&mut self) -> Result<bool, Why>
         requires young { self.old.slots.age < oldest }
@@ -263,9 +275,7 @@ impl Realm {
             return Err(Why::NoMemory);
         }
         self.prepared = false;
-        let worked = perform_job(&mut self.tables);
-        self.places = count_places(&self.tables);
-        Ok(worked)
+        Ok(perform_job(&mut self.tables))
     }
 
     /// Performs jobs until none is queued, or `most` were. One that is queued may be refused: then those before it
