@@ -1,9 +1,8 @@
 -- What is told of a realm's slots holds of all that are alike to them, where it looks at no promise, or at those alone that are watched.
-use Rattle.std.proofs.Common.{◌≡◌, ◌≤◌, ℕ, Bool, List, [], ◌∷◌, Option, Some, None, refl, sym, ap, ◌∙◌, subst, option_map}
+use Rattle.std.proofs.Common.{◌≡◌, ◌≤◌, ℕ, List, [], ◌∷◌, Option, Some, None, refl, sym, ap, ◌∙◌, subst, option_map}
 use Rattle.std.specs.Prelude.{is_some, if◌then◌else◌, option_and_then}
 use Rattle.std.specs.List.{list_all}
 use Rattle.ws_value.specs.declared.ids.PromiseId.{PromiseId}
-use Rattle.ws_value.specs.declared.value.Outcome.{Outcome}
 use Rattle.ws_flow.specs.Told.{then_told, IsShortOf}
 use Rattle.ws_steps.specs.declared.calls.Call.{Call}
 use Rattle.ws_steps.specs.Promises.{Entry as PromiseEntry, entry_at, next_job}

@@ -41,7 +41,6 @@ use Rattle.ws_node.specs.declared.node.Entrance.{Entrance}
 use Rattle.ws_node.specs.declared.node.Input.{Input}
 use Rattle.ws_node.specs.declared.node.Input.TheVariants as input
 use Rattle.ws_node.specs.declared.node.Node.{Node}
-use Rattle.ws_node.specs.declared.node.Output.TheVariants as output
 use Rattle.ws_node.specs.Host.{GivesPiece, IsPiece}
 use Rattle.ws_node.specs.Moves.{Asks, Performed, Refused, settles, takes_bytes, Takes, Reads, ReadNot, Wanted, ReadOnce}
 use Rattle.ws_node.specs.Node.{in_bytes, is_edge, lost_by, coming, coming_behind, lying_by, lies, lies_in, lying, nothing_yet, parts, stages_in, works_in}

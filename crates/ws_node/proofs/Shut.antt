@@ -2,7 +2,7 @@
 use Rattle.std.proofs.Common.{◌≡◌, ◌≢◌, ◌⊎◌, inl, inr, ℕ, true, List, [], ◌∷◌, Option, sym, ap, subst, ◌∙◌}
 use Rattle.ws_value.specs.declared.ids.StreamId.{StreamId}
 use Rattle.ws_value.specs.declared.value.Value.{Value}
-use Rattle.ws_flow.specs.Told.{Open as MayCome, Told, told}
+use Rattle.ws_flow.specs.Told.{Open as MayCome, Told}
 use Rattle.ws_steps.specs.declared.calls.Call.TheVariants.{Enqueue}
 use Rattle.ws_steps.specs.declared.calls.Reply.TheVariants.{Done}
 use Rattle.ws_steps.specs.declared.transform.TransformId.{TransformId}

@@ -24,7 +24,6 @@ use Rattle.ws_chain_laws.specs.Nodes.{only_at}
 use Rattle.ws_realm.specs.Seen.{SeenRealm}
 use Rattle.ws_node.specs.declared.node.Abort.{Abort}
 use Rattle.ws_node.specs.declared.node.Exit.{Exit}
-use Rattle.ws_node.specs.declared.node.Input.TheVariants as input
 use Rattle.ws_node.specs.declared.node.Node.{Node}
 use Rattle.ws_node.specs.declared.node.Output.{Output}
 use Rattle.ws_node.specs.declared.node.Output.TheVariants as output

@@ -1,23 +1,21 @@
 //! What the host of a node does as it is asked: a pull reads the input once, a transform or a flush asks the stage and
-//! enqueues what comes out, a write writes its chunk whole, a close finishes the output.
-ghost use Rattle.std.specs.Prelude.{◌≡◌, ◌<◌, ◌≤◌, ◌+◌, ◌-◌, ◌^◌, ℕ, suc, [], false, length, true, IfOk, MatchOption, None, OnErr};
+//! enqueues what comes out. What a write and a close do to the output is in `output`.
+ghost use Rattle.std.specs.Prelude.{◌≡◌, ◌<◌, ◌≤◌, ◌+◌, ◌-◌, ◌^◌, ℕ, suc, [], false, length, true, IfOk, MatchOption, None, OnErr, reverse};
 ghost use Rattle.ws_chain_laws.specs.Chain.{source_of};
 ghost use Rattle.ws_io.specs.Moment.{moment};
-ghost use Rattle.ws_node.specs.declared.node.Output.TheVariants as output_is;
 ghost use Rattle.ws_node.specs.Hears.{Hears, MayHear};
 ghost use Rattle.ws_node.specs.Host.{GivesPiece};
-ghost use Rattle.ws_steps.specs.Histories.{is_same};
 ghost use Rattle.ws_steps.specs.declared.calls.HostCall.TheVariants as host_call;
-ghost use Rattle.ws_node.specs.Moves.{Answers, Asks, DrawsNear, Empties, Enqueues, Fails, Finishes, Flushes, MayAnswer, MayTake, PutsOut, Reads, Takes, Writes, fails, finishes_by, is_sink, settles, settles_by, takes_chunk, transforms_by, writes_by};
-ghost use Rattle.ws_node.specs.Node.{is_busy, is_reached, stage_of};
+ghost use Rattle.ws_node.specs.Moves.{Answers, Asks, Empties, Enqueues, Flushes, MayAnswer, MayTake, PutsOut, Reads, Takes, settles_by, takes_chunk, transforms_by};
+ghost use Rattle.ws_node.specs.Node.{is_busy, stage_of};
 ghost use Rattle.ws_node.specs.Past.{Driven, HasCounts};
 ghost use Rattle.ws_node.specs.Turns.{GivesHeard, HasHeard, IsBegun, NoneHeard, SameEnds};
 ghost use Rattle.ws_node.specs.Went.{Went};
 
-use crate::node::{Abort, Entrance, Exit, Input, Node, Output};
+use crate::node::{Entrance, Input, Node, Output};
 use std::alloc::Global;
-use ws_io::{Failed, Sink, Source, write_whole};
-use ws_realm::{Answer, Call, Chunk, Event, Fault, HostId, NoMemory, Plain, StreamId, Value, Why};
+use ws_io::{Failed, Sink, Source};
+use ws_realm::{Call, Chunk, Event, Fault, HostId, NoMemory, Plain, StreamId, Value, Why};
 use ws_stages::{Ending, Pushed};
 use ws_steps::HostCall;
 use ws_value::Room;
@@ -65,6 +63,16 @@ fn place_of(readable: StreamId) -> Option<usize>
         return None;
     }
     Some((readable.0 / 2 - 1) as usize)
+}
+
+/// Turns a list round. Most have one chunk.
+#[inline(always)]
+fn turn_round(chunks: &mut Vec<Chunk>)
+    ensures { chunks.new.items ≡ reverse chunks.old.items }
+{
+    if chunks.len() > 1 {
+        chunks.as_mut_slice().reverse();
+    }
 }
 
 impl Node {
@@ -142,6 +150,7 @@ impl Node {
     }
 
     /// Does what a call of the host asks.
+    #[inline(always)]
     fn answer<K: Sink>(&mut self, id: HostId, call: HostCall, output: &mut K)
         requires { MayAnswer self.old call }
         ensures { Answers id call self.old self.new
@@ -153,20 +162,13 @@ impl Node {
             HostCall::Pull(_) => self.entrance.asked = Some(id),
             HostCall::Write(stream, value) => self.write(id, stream, value, output),
             HostCall::Close(stream) => self.close(id, stream, output),
-            HostCall::Start(_) => self.settle(id),
-            HostCall::Cancel(..) => self.settle(id),
-            HostCall::Abort(..) => self.settle(id),
+            HostCall::Start(_) => self.settle_rarely(id),
+            HostCall::Cancel(..) => self.settle_rarely(id),
+            HostCall::Abort(..) => self.settle_rarely(id),
             HostCall::Transform(stream, value) => self.transform(id, stream, value),
             HostCall::Flush(stream) => self.flush(id, stream),
-            HostCall::CancelTransform(..) => self.settle(id),
+            HostCall::CancelTransform(..) => self.settle_rarely(id),
         }
-    }
-
-    /// What was asked has failed.
-    fn fail(&mut self, id: HostId, fault: Fault)
-        ensures { Asks (fails id fault) self.old self.new }
-    {
-        self.ask(Call::Settle(id, Answer::Fail(Plain::Fault(fault))))
     }
 
     /// Writes what the output holds back. An output for which that fails takes no more.
@@ -204,15 +206,27 @@ impl Node {
 
     /// Answers the pull that waits by one read of the input, once all that was read before was had. An input that
     /// ended or failed isn't read again, and none is once an error came up.
+    #[inline(always)]
     fn read<S: Source>(&mut self, alloc: Global, input: &mut S)
         requires { HasCounts self.old.entrance }
         ensures { Reads self.old self.new
             (S.feed input.old) (S.feed input.new) (S.faults input.old) (S.faults input.new) }
     {
-        if self.core.stopped.is_some() {
+        if self.entrance.ahead > 0 {
             return;
         }
-        if self.entrance.ahead > 0 {
+        self.read_next(alloc, input)
+    }
+
+    /// The same, once all that was read before was had: at most events it wasn't.
+    #[inline(never)]
+    fn read_next<S: Source>(&mut self, alloc: Global, input: &mut S)
+        requires counts { HasCounts self.old.entrance }
+        requires had { self.old.entrance.ahead ≡ 0 }
+        ensures { Reads self.old self.new
+            (S.feed input.old) (S.feed input.new) (S.faults input.old) (S.faults input.new) }
+    {
+        if self.core.stopped.is_some() {
             return;
         }
         if self.exit.broken {
@@ -290,10 +304,12 @@ impl Node {
             self.entrance.had(chunk.len());
         }
         let pushed = work.push(chunk);
-        self.put_out(id, stream, pushed)
+        self.put_out(id, stream, place, pushed)
     }
 
     /// The input of a stage has ended.
+    #[cold]
+    #[inline(never)]
     fn flush(&mut self, id: HostId, stream: StreamId)
         ensures { Flushes id stream self.old self.new }
     {
@@ -307,19 +323,25 @@ impl Node {
             return;
         }
         let pushed = work.flush();
-        self.put_out(id, stream, pushed)
+        self.put_out(id, stream, place, pushed)
     }
 
-    /// What came out of a stage is enqueued behind it, and what was asked has ended as the stage did.
+    /// What came out of the stage at this place is enqueued behind it, and what was asked has ended as the stage did.
     #[inline(always)]
-    fn put_out(&mut self, id: HostId, stream: StreamId, pushed: Result<Pushed, NoMemory>)
+    fn put_out(
+        &mut self,
+        id: HostId,
+        stream: StreamId,
+        place: usize,
+        pushed: Result<Pushed, NoMemory>,
+    )
         ensures { PutsOut id stream pushed self.old self.new }
     {
         match pushed {
             Ok(pushed) => {
                 let mut chunks = pushed.chunks;
                 self.enqueue_all(stream, &mut chunks);
-                self.hand_back(stream, chunks);
+                self.hand_back(place, chunks);
                 self.settle_by(id, stream, pushed.ending)
             }
             Err(NoMemory) => self.core.stopped = Some(Why::NoMemory),
@@ -327,11 +349,12 @@ impl Node {
     }
 
     /// Enqueues chunks in order, and takes them out of their list. Where one can't be taken, the rest is dropped.
+    #[inline(always)]
     fn enqueue_all(&mut self, stream: StreamId, chunks: &mut Vec<Chunk>)
         ensures enqueued { Enqueues stream chunks.old.items self.old self.new }
         ensures none { chunks.new.items ≡ [] }
     {
-        chunks.reverse();
+        turn_round(chunks);
         while let Some(chunk) = chunks.pop() {
             if !self.enqueue(stream, chunk) {
                 chunks.clear();
@@ -340,20 +363,19 @@ impl Node {
         }
     }
 
-    /// Hands an empty list back to the stage that answered it.
-    fn hand_back(&mut self, stream: StreamId, list: Vec<Chunk>)
+    /// Hands an empty list back to the stage at this place, which answered it.
+    #[inline(always)]
+    fn hand_back(&mut self, place: usize, list: Vec<Chunk>)
         requires { list.items ≡ [] }
         ensures { self.new ≡ self.old }
     {
-        let Some(place) = place_of(stream) else {
-            return;
-        };
         if let Some(work) = self.core.stages.get_mut(place) {
             work.take_back(list);
         }
     }
 
     /// What was asked of a stage is done, or has failed by its ending.
+    #[inline(always)]
     fn settle_by(&mut self, id: HostId, stream: StreamId, ending: Ending)
         ensures { Asks (settles_by self.old.core.first id stream ending) self.old self.new }
     {
@@ -365,103 +387,6 @@ impl Node {
             }
         }
     }
-
-    /// A chunk of the sink is written to the output.
-    fn write<K: Sink>(&mut self, id: HostId, stream: StreamId, value: Value, output: &mut K)
-        ensures { writes_by id value self.old self.new
-            (record { faults = K.faults output.old; finished = K.finished output.old })
-            (record { faults = K.faults output.new; finished = K.finished output.new })
-            (K.got output.old) (K.got output.new) (is_sink self.old.exit stream) }
-    {
-        if !self.exit.is_sink(stream) {
-            return self.settle(id);
-        }
-        match value {
-            Value::Bytes(chunk) => self.write_chunk(id, &chunk, output),
-            Value::Plain(_) => self.settle(id),
-        }
-    }
-
-    /// Writes a chunk whole. An output that was finished or has failed takes no more, nor does one that has all bytes
-    /// before the abort.
-    fn write_chunk<K: Sink>(&mut self, id: HostId, chunk: &Chunk, output: &mut K)
-        ensures { Writes id chunk.now self.old self.new
-            (record { faults = K.faults output.old; finished = K.finished output.old })
-            (record { faults = K.faults output.new; finished = K.finished output.new })
-            (K.got output.old) (K.got output.new) }
-    {
-        if !self.exit.output.is_open() {
-            return self.fail_output(id);
-        }
-        if self.exit.is_reached() {
-            self.exit.output = Output::Aborted;
-            return self.fail_output(id);
-        }
-        match write_whole(output, chunk.as_slice()) {
-            Ok(()) => {
-                if self.core.stages.is_empty() {
-                    self.entrance.had(chunk.len());
-                }
-                self.draw_near(chunk.len() as u64);
-                self.settle(id)
-            }
-            Err(Failed) => self.fail_output(id),
-        }
-    }
-
-    /// Counts bytes that were written. Where these are all before the abort, its signal is triggered.
-    fn draw_near(&mut self, count: u64)
-        ensures { DrawsNear count self.old self.new }
-    {
-        let Some(abort) = self.exit.abort else {
-            return;
-        };
-        let left = abort.left.saturating_sub(count);
-        self.exit.abort = Some(Abort { left, ..abort });
-        if left == 0 {
-            self.ask(Call::Trigger(abort.signal, Plain::Fault(Fault::Abort)))
-        }
-    }
-
-    /// The close of the sink finishes the output.
-    fn close<K: Sink>(&mut self, id: HostId, stream: StreamId, output: &mut K)
-        ensures { finishes_by id self.old self.new
-            (record { faults = K.faults output.old; finished = K.finished output.old })
-            (record { faults = K.faults output.new; finished = K.finished output.new })
-            (K.got output.old) (K.got output.new) (is_sink self.old.exit stream) }
-    {
-        if !self.exit.is_sink(stream) {
-            return self.settle(id);
-        }
-        self.finish(id, output)
-    }
-
-    /// Finishes the output, once.
-    fn finish<K: Sink>(&mut self, id: HostId, output: &mut K)
-        ensures { Finishes id self.old self.new
-            (record { faults = K.faults output.old; finished = K.finished output.old })
-            (record { faults = K.faults output.new; finished = K.finished output.new })
-            (K.got output.old) (K.got output.new) }
-    {
-        if !self.exit.output.is_open() {
-            return self.fail_output(id);
-        }
-        match output.finish() {
-            Ok(()) => {
-                self.exit.output = Output::Finished;
-                self.settle(id)
-            }
-            Err(Failed) => self.fail_output(id),
-        }
-    }
-
-    /// What the output was asked for has failed.
-    fn fail_output(&mut self, id: HostId)
-        ensures { Fails id self.old self.new }
-    {
-        self.exit.output = self.exit.output.shut();
-        self.fail(id, self.exit.output.fault())
-    }
 }
 
 impl Entrance {
@@ -470,27 +395,5 @@ impl Entrance {
         ensures { self.new ≡ record self.old { ahead = self.old.ahead - count } }
     {
         self.ahead = self.ahead.saturating_sub(count as u64);
-    }
-}
-
-impl Exit {
-    /// Whether this is the stream that feeds the output. A node that feeds an edge has none.
-    fn is_sink(&self, stream: StreamId) -> bool
-        ensures { result ≡ is_sink self.now stream }
-    {
-        match self.output {
-            Output::Edge => false,
-            _ => self.sink.0 == stream.0,
-        }
-    }
-
-    /// Whether the output has all bytes before the abort.
-    fn is_reached(&self) -> bool
-        ensures { result ≡ is_reached self.now.abort }
-    {
-        match self.abort {
-            Some(abort) => abort.left == 0,
-            None => false,
-        }
     }
 }

@@ -10,6 +10,7 @@ pub mod laws;
 mod making;
 mod middle;
 mod node;
+mod output;
 pub mod rules;
 mod tail;
 mod turn;

@@ -5,7 +5,7 @@ ghost use Rattle.ws_realm.specs.Seen.{oldest, outcome_named};
 ghost use Rattle.ws_realm.specs.declared.realm.Why.TheVariants as why;
 ghost use Rattle.ws_steps.specs.Run as steps;
 ghost use Rattle.ws_node.specs.Ends.{EndsAs, status_of, unless_finished};
-ghost use Rattle.ws_node.specs.Moves.{Asks, IsDoneBy, Works, fault_of, is_readable, is_writable, settles, shut};
+ghost use Rattle.ws_node.specs.Moves.{Asks, IsDoneBy, Works, fails, fault_of, is_readable, is_writable, settles, shut};
 ghost use Rattle.ws_node.specs.Node.{feeds_edge, has_ended, has_settled, is_busy, outcome_of_pipe};
 ghost use Rattle.ws_node.specs.Past.{Driven};
 ghost use Rattle.ws_steps.specs.declared.calls.Call.TheVariants.{Deliver, Enqueue};
@@ -15,8 +15,8 @@ ghost use Rattle.ws_node.specs.Turns.{HasWorked};
 use ws_edge::End;
 use ws_io::Status;
 use ws_realm::{
-    Call, Chunk, Fault, HostId, Message, Outcome, Plain, PortId, PromiseId, Realm, Reply, SignalId,
-    StreamId, Value, Why,
+    Answer, Call, Chunk, Fault, HostId, Message, Outcome, Plain, PortId, PromiseId, Realm, Reply,
+    SignalId, StreamId, Value, Why,
 };
 use ws_stages::Work;
 
@@ -175,6 +175,24 @@ impl Node {
         if let Err(why) = self.core.realm.settle_done(id) {
             self.core.stopped = Some(why);
         }
+    }
+
+    /// The same as `settle`, of what is asked once or never.
+    #[cold]
+    #[inline(never)]
+    pub fn settle_rarely(&mut self, id: HostId)
+        ensures { Asks (settles id) self.old self.new }
+    {
+        self.settle(id)
+    }
+
+    /// What was asked has failed.
+    #[cold]
+    #[inline(never)]
+    pub fn fail(&mut self, id: HostId, fault: Fault)
+        ensures { Asks (fails id fault) self.old self.new }
+    {
+        self.ask(Call::Settle(id, Answer::Fail(Plain::Fault(fault))))
     }
 
     /// Delivers a message to a port. A refusal stops the realm.

@@ -4,7 +4,7 @@ use Rattle.ws_node.proofs.InOrder.{from-first, from-next, to-dropped, to-last, p
 use Rattle.ws_node.proofs.node.Node.enqueue_all.Goals as goal
 
 pub loop-chunk-init : goal.loop-chunk-init
-loop-chunk-init c = from-first c.args.stream _ _ c.args.self.now (ap reverse c.reverse.ensures.items ∙ reverse-reverse c.args.chunks.now.items)
+loop-chunk-init c = from-first c.args.stream _ _ c.args.self.now (ap reverse c.turn_round.ensures ∙ reverse-reverse c.args.chunks.now.items)
 
 pub loop-chunk-preserved : goal.loop-chunk-preserved
 loop-chunk-preserved c =

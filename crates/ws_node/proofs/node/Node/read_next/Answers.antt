@@ -1,7 +1,7 @@
 use Rattle.std.proofs.Common.{refl, sym, ◌∙◌, ap, arith, rules}
 use Rattle.ws_node.specs.Moves.{ReadOnce, Wanted}
 use Rattle.ws_node.proofs.Asking.{is_none_so, may_read, shut-rests, stopped-rests, unread}
-use Rattle.ws_node.proofs.node.Node.read.Goals as goal
+use Rattle.ws_node.proofs.node.Node.read_next.Goals as goal
 
 pub returns-then-is_some : goal.returns-then-is_some
 returns-then-is_some g c =
