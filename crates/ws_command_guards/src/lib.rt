@@ -4,6 +4,7 @@
 
 pub mod calls;
 pub mod commands;
+pub mod direct;
 pub mod generation;
 pub mod realms;
 pub mod runs;
