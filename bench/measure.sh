@@ -2,16 +2,18 @@
 # run, and `show` tells what a name had in all of them.
 
 # Runs the words behind the name, with the output in `$work/NAME`, and notes the milliseconds by the wall clock, those of processor
-# time, and the peak memory.
+# time, and the peak memory. Of processor time `/usr/bin/time` tells hundredths, too few for a short run, and bash thousandths.
 once() {
     name=$1
     shift
     rm -f "$work/$name"
     start=$(date +%s%N)
-    /usr/bin/time -f '%M %U %S' -o "$work/time" "$@" <"$work/in" >"$work/$name"
+    # shellcheck disable=SC2016
+    bash -c 'TIMEFORMAT="%3U %3S"; { time "$@" 2>&3; } 3>&2 2>"$0"' "$work/processor" \
+        /usr/bin/time -f %M -o "$work/time" "$@" <"$work/in" >"$work/$name"
     echo "$((($(date +%s%N) - start) / 1000000))" >>"$work/$name.ms"
-    awk '{ printf "%d\n", ($2 + $3) * 1000 }' "$work/time" >>"$work/$name.cpu"
-    awk '{ print $1 }' "$work/time" >>"$work/$name.kib"
+    awk '{ printf "%d\n", ($1 + $2) * 1000 }' "$work/processor" >>"$work/$name.cpu"
+    cat "$work/time" >>"$work/$name.kib"
 }
 
 # So many MiB of text in lines of about 80 bytes.

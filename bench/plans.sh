@@ -3,7 +3,8 @@
 # where node is there, beside the same stages written for Node's own Web Streams (reads of 4,096 bytes), in one run: `lines` and
 # `number`, `hex`, `mask`, and four transform streams in a row. They take turns, five times each, and three times as often where a
 # run is short. Prints each one's median and best, its rate and the chunks that pass its stages in a second by the median, its peak
-# memory, and how many times Node's rate `./streams run` has, by the medians and by the best. Each output is compared with Node's.
+# memory, and how many times Node's rate `./streams run` has: by the medians, by the best, and by the medians of the processor time.
+# Each output is compared with Node's.
 # Words: the input's MiB, and how many turns.
 set -eu
 root=$(CDPATH='' cd -- "$(dirname -- "$0")/.." && pwd)
@@ -53,7 +54,8 @@ run() {
         show node
         cmp "$work/streams" "$work/node" || { echo 'the outputs differ' >&2; exit 1; }
         echo "  streams has $(ratio "$(median "$work/streams.ms")" "$(median "$work/node.ms")") times node's rate," \
-            "best by best $(ratio "$(least "$work/streams.ms")" "$(least "$work/node.ms")")"
+            "best by best $(ratio "$(least "$work/streams.ms")" "$(least "$work/node.ms")")," \
+            "by processor time $(ratio "$(median "$work/streams.cpu")" "$(median "$work/node.cpu")")"
     fi
 }
 
