@@ -214,8 +214,11 @@ def follow():
             raise exits.Stop(int(status), f"{why} ({LOG})" if int(status) == exits.NOT_PROVED else why)
 
 
-def wait():
-    """Returns when the program is built: builds it, or waits for who does."""
+def wait(started):
+    """Returns when the program is built: builds it, or waits for who does. Where a build was started for this call before, one that failed isn't begun
+    again, though it failed before anybody waited for it."""
+    if started and not sources.is_built():
+        follow()
     while not sources.is_built():
         held = lock()
         if not held:

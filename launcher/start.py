@@ -27,10 +27,11 @@ def main(words):
             if sources.BUILT.exists():
                 exits.say("the program is older than its sources")
             kit.require()
-            answer = None if os.environ.get("STREAMS_PROVED") else first.answer(words)
+            answers = not os.environ.get("STREAMS_PROVED")
+            answer = first.answer(words) if answers else None
             if answer is not None:
                 return answer
-            build.wait()
+            build.wait(started=answers)
         run(words)
     except exits.Stop as why:
         exits.say(why)

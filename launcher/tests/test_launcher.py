@@ -296,9 +296,16 @@ class Launcher(unittest.TestCase):
         ran = self.run_streams("run", given=b"x", env={"STREAMS_PROVED": "1"})
         said = self.assert_ended(ran, 70, "a crate could not be proved")
         self.assertIn("what rt said", said)
-        self.set("no_answer")
-        said = self.assert_ended(self.run_streams("run", given=b"x"), 70, "a crate could not be proved")
-        self.assertIn("build.log", said)
+
+    def test_a_proof_that_fails_behind_an_answer(self):
+        self.set("ci_status", "1")
+        for seconds in ("0", "1"):
+            # the proof fails while somebody waits for it, or before
+            self.set("no_answer", seconds)
+            proofs = len(self.calls("ci"))
+            said = self.assert_ended(self.run_streams("run", given=b"x"), 70, "a crate could not be proved")
+            self.assertIn("build.log", said)
+            self.assertEqual(len(self.calls("ci")), proofs + 1, "the proof was begun again")
 
     # What is older than its sources, and what isn't.
 
