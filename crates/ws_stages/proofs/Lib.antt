@@ -3,5 +3,4 @@ pub mod Feeds
 pub mod Texts
 pub mod Pushes
 pub mod Workers
-pub mod Digits
 pub mod Kernels

@@ -1,7 +1,7 @@
 //! What stages make of bytes: each one masked, their hexadecimal text, the bytes of such a text, and chunks with a
 //! number or a length before them.
-ghost use Rattle.std.specs.Prelude.{◌≡◌, ◌∷◌, ◌++◌, ◌+◌, ◌*◌, ◌<◌, ◌≤◌, ◌^◌, IfOk, OnOk, decimal, length, slice_index};
-ghost use Rattle.hex.specs.Hex.{encode_lower, hex_digit_value, lower_digits};
+ghost use Rattle.std.specs.Prelude.{◌≡◌, ◌∷◌, ◌++◌, ◌+◌, ◌<◌, ◌≤◌, ◌^◌, IfOk, OnOk, decimal, length};
+ghost use Rattle.hex.specs.Hex.{hex_digit_value};
 ghost use Rattle.ws_flow.specs.declared.plan.Ending.TheVariants.{Fine};
 ghost use Rattle.ws_flow.specs.Machines.{One, SomeBytes, byte_push};
 ghost use Rattle.ws_flow.specs.Stages.{IsHalf, framed, hex_byte, mask_byte, unhex_byte};
@@ -11,7 +11,7 @@ use crate::cut::Cut;
 use itoa::Buffer;
 use std::alloc::Global;
 use ws_flow::Ending;
-use ws_lanes::mask;
+use ws_lanes::{mask, put_hex};
 use ws_value::{Chunk, NoMemory};
 
 /// The digits of the largest number of 64 bits.
@@ -32,31 +32,6 @@ pub fn masked(cut: &Cut, key: &[u8], bytes: &[u8]) -> Result<Chunk, NoMemory>
     Ok(Chunk::from_vec(text))
 }
 
-/// The digit of a value, in lower case.
-#[inline(always)]
-fn digit_of(value: u8) -> u8
-    requires { value < 16 }
-    ensures { result ≡ slice_index lower_digits value }
-{
-    if value < 10 {
-        value + b'0'
-    } else {
-        value - 10 + b'a'
-    }
-}
-
-/// Writes the two digits of each byte. The compiler makes wide instructions of the loop, since it has no table.
-fn put_digits(text: &mut [u8], bytes: &[u8])
-    requires { length text.old ≡ 2 * length bytes.now }
-    ensures { text.new ≡ encode_lower bytes.now }
-{
-    'bytes: for i in 0..bytes.len() {
-        let byte = bytes[i];
-        text[2 * i] = digit_of(byte >> 4);
-        text[2 * i + 1] = digit_of(byte & 0x0f);
-    }
-}
-
 /// The text of these bytes, in lower case.
 pub fn in_hex(cut: &Cut, bytes: &[u8]) -> Result<Chunk, NoMemory>
     requires room { CanTake cut.now (length bytes.now) }
@@ -64,7 +39,7 @@ pub fn in_hex(cut: &Cut, bytes: &[u8]) -> Result<Chunk, NoMemory>
         ≡ byte_push One hex_byte (kept_of cut.now) bytes.now) }
 {
     let mut text = vec![in cut.alloc; 0; 2 * bytes.len()]?;
-    put_digits(text.as_mut_slice(), bytes);
+    put_hex(text.as_mut_slice(), bytes);
     Ok(Chunk::from_vec(text))
 }
 

@@ -1,5 +1,5 @@
-use Rattle.ws_stages.proofs.Digits.{low_digit, high_digit}
-use Rattle.ws_stages.proofs.text.digit_of.Goals as goal
+use Rattle.ws_lanes.proofs.Texts.{low_digit, high_digit}
+use Rattle.ws_lanes.proofs.digits.digit_of.Goals as goal
 
 pub returns-then-value-lt10 : goal.returns-then-value-lt10
 returns-then-value-lt10 c = low_digit c.args.value c.if-value-lt10.true
