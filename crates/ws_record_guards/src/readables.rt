@@ -42,8 +42,8 @@ pub fn pull_done(stream: &mut Readable) -> bool
     stream.pull_done()
 }
 
-/// ReadableStreamDefaultControllerCallPullIfNeeded, where the stream can close or enqueue: whether the pull algorithm is
-/// to be performed.
+/// ReadableStreamDefaultControllerCallPullIfNeeded, where the stream can close or enqueue: whether the pull algorithm
+/// is to be performed.
 pub fn pulls_directly(stream: &mut Readable) -> bool
     requires { rows.can_close_or_enqueue stream.old.slots ≡ true }
     ensures row { (me : StreamId) (p : Seen) (fx : SeenAgenda) → rows.call_pull_if_needed me (acts_of stream.old p fx)
@@ -78,8 +78,8 @@ pub fn hand_directly(stream: &mut Readable) -> ReadRequest
     stream.hand_directly()
 }
 
-/// ReadableStreamDefaultControllerEnqueue, where the stream can take a chunk and no request waits for it: the chunk goes
-/// into the queue, before a pull that may be needed.
+/// ReadableStreamDefaultControllerEnqueue, where the stream can take a chunk and no request waits for it: the chunk
+/// goes into the queue, before a pull that may be needed.
 pub fn keep_directly(stream: &mut Readable, chunk: Value)
     requires takes { rows.can_close_or_enqueue stream.old.slots ≡ true }
     requires none_waits { queues.is_empty (rows.waiting stream.old.slots) ≡ true }
