@@ -169,9 +169,9 @@ impl Writable {
         if !self.is_chunk_first() {
             return None;
         }
-        match self.queue.take_first(WriteRecord::InFlight) {
-            Some(WriteRecord::Chunk(chunk)) => Some(chunk),
-            _ => None,
-        }
+        let Some(WriteRecord::Chunk(chunk)) = self.queue.take_first(WriteRecord::InFlight) else {
+            unreachable!()
+        };
+        Some(chunk)
     }
 }
