@@ -31,7 +31,7 @@ effect_of (PipeWrote p) = Pipe p WriteEnded
 effect_of (WriteGoesOn t d) = Transform t (TransformGoesOn d)
 effect_of (Fulfils p) = Settle p (Ok Undefined)
 
--- a job stands whole in another queue
+-- a job has no short form: it stands whole in another queue, or there is none
 abbrev pub is_whole : Short → Bool
 is_whole short.Whole = true
 is_whole (short.Pulled i) = false

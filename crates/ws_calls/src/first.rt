@@ -56,7 +56,7 @@ fn first_of(short: &Short) -> Option<First>
     }
 }
 
-/// Whether a job stands whole in another queue.
+/// Whether a job has no short form: it stands whole in another queue, or there is none.
 #[inline(always)]
 fn is_whole(short: &Short) -> bool
     ensures { result ≡ is_whole short.now }

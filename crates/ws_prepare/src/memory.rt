@@ -16,7 +16,7 @@ const PLACES_FOR_EACH: usize = 15;
 const PLACES_FOR_ANY: usize = 34;
 
 /// Where a job or an enqueuing finds fewer, more are made before it: so many serve sixteen of the jobs that each chunk
-/// meets, one after another.
+/// meets, one after another. Of the agenda these need 454, which `LEAST_PLACES` and `SPARE_TURNS` give it at once.
 const PLACES_FOR_SEVERAL: usize = 230;
 
 /// At least so many are made at once.
