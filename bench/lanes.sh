@@ -17,8 +17,8 @@ while [ "$runs" -gt 0 ]; do
     runs=$((runs - 1))
 done
 for bytes in 16384 67108864; do
-    for kernel in read count_byte count_plainly mask mask_plainly; do
+    for kernel in read count_byte count_plainly mask mask_plainly put_hex put_hex_plainly; do
         measured=$work/$kernel.$bytes
-        printf '%-9s %-14s %7s MiB/s  (best %7s)\n' "$bytes" "$kernel" "$((1024 * 1000000 / $(median "$measured")))" "$((1024 * 1000000 / $(least "$measured")))"
+        printf '%-9s %-15s %7s MiB/s  (best %7s)\n' "$bytes" "$kernel" "$((1024 * 1000000 / $(median "$measured")))" "$((1024 * 1000000 / $(least "$measured")))"
     done
 done
