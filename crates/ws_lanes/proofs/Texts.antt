@@ -1,64 +1,18 @@
 -- The digits of bytes, and a text that is written as far as the loop has come.
-use Rattle.std.proofs.Common.{◌≡◌, inl, inr, ℕ, zero, suc, ◌+◌, ◌-◌, ◌*◌, ◌/◌, ◌%◌, ◌<◌, ◌≤◌, ◌^◌, Bool, cond, List, [], ◌∷◌, ◌++◌, length, map, take, drop, get_or, replicate, w8, Fits, bit_and, refl, sym, ap, subst, ◌∙◌, arith}
-use Rattle.std.proofs.Math.Dec.{ltb}
-use Rattle.std.proofs.Math.Nat.{mod-eq_of_lt}
-use Rattle.std.proofs.lemmas.Bool.{cases_lt, lt-ltb, le-ltb}
+use Rattle.std.proofs.Common.{◌≡◌, ℕ, zero, suc, ◌+◌, ◌*◌, ◌/◌, ◌%◌, ◌<◌, ◌≤◌, ◌^◌, List, [], ◌∷◌, ◌++◌, length, map, take, drop, get_or, replicate, w8, Fits, bit_and, refl, sym, ap, subst, ◌∙◌, arith}
 use Rattle.std.proofs.lemmas.List.{append_assoc}
 use Rattle.std.proofs.lemmas.Nat.{and_mask}
-use Rattle.std.proofs.lemmas.Simd.{length-put_chunk, chunk-drop, take_more_put_chunk, zip2_splat, below_from_Fits}
-use Rattle.std.specs.Simd.Lanes.{Each1, chunk, pick_l, put_chunk, sel_l, top, zip2}
-use Rattle.hex.specs.Hex.{encode_with, lower_digits}
+use Rattle.std.proofs.lemmas.Simd.{swz_l, get_or-swz_l_below, length-put_chunk, chunk-drop, take_more_put_chunk, zip2_splat, below_from_Fits}
+use Rattle.std.specs.Simd.Lanes.{Each1, chunk, pick_l, put_chunk, zip2}
+use Rattle.hex.specs.Hex.{encode_with}
 
-pub low_digit : (v : ℕ) → v < 10 → v + 48 ≡ get_or lower_digits v 0
-low_digit zero h = refl
-low_digit (suc zero) h = refl
-low_digit (suc (suc zero)) h = refl
-low_digit (suc (suc (suc zero))) h = refl
-low_digit (suc (suc (suc (suc zero)))) h = refl
-low_digit (suc (suc (suc (suc (suc zero))))) h = refl
-low_digit (suc (suc (suc (suc (suc (suc zero)))))) h = refl
-low_digit (suc (suc (suc (suc (suc (suc (suc zero))))))) h = refl
-low_digit (suc (suc (suc (suc (suc (suc (suc (suc zero)))))))) h = refl
-low_digit (suc (suc (suc (suc (suc (suc (suc (suc (suc zero))))))))) h = refl
-low_digit (suc (suc (suc (suc (suc (suc (suc (suc (suc (suc v)))))))))) h = absurd (omega arith)
-
--- from ten on
-letter : (v : ℕ) → v < 6 → v + 97 ≡ get_or lower_digits (10 + v) 0
-letter zero h = refl
-letter (suc zero) h = refl
-letter (suc (suc zero)) h = refl
-letter (suc (suc (suc zero))) h = refl
-letter (suc (suc (suc (suc zero)))) h = refl
-letter (suc (suc (suc (suc (suc zero))))) h = refl
-letter (suc (suc (suc (suc (suc (suc v)))))) h = absurd (omega arith)
-
-pub high_digit : (v : ℕ) → 10 ≤ v → v < 16 → v - 10 + 97 ≡ get_or lower_digits v 0
-high_digit v from below = letter (v - 10) (omega arith) ∙ ap (λ q. get_or lower_digits q 0) (ten_more v from) where
-  ten_more : (v : ℕ) → 10 ≤ v → 10 + (v - 10) ≡ v
-  ten_more v from = omega arith
-
-small_sum : (v : ℕ) → v < 16 → ((v + 48) % 256 + 0) % 256 ≡ v + 48
-small_sum v h = ap (λ q. (q + 0) % 256) (mod-eq_of_lt {n = v + 48} {m = 256} (omega arith)) ∙ mod-eq_of_lt {n = v + 48 + 0} {m = 256} (omega arith) ∙ omega arith
-
-large_sum : (v : ℕ) → 10 ≤ v → v < 16 → ((v + 48) % 256 + 39) % 256 ≡ v - 10 + 97
-large_sum v m h = ap (λ q. (q + 39) % 256) (mod-eq_of_lt {n = v + 48} {m = 256} (omega arith)) ∙ mod-eq_of_lt {n = v + 48 + 39} {m = 256} (omega arith) ∙ omega arith
-
--- the digit of a value, as a lane makes it
-lane : (v : ℕ) → v < 16 → ((v + 48) % 256 + cond (top 7 (cond (ltb 9 v) 255 0)) 39 0) % 256 ≡ get_or lower_digits v 0
-lane v h = elim (cases_lt v 10) [
-  | inl l ↦ ap (λ (q : Bool). ((v + 48) % 256 + cond (top 7 (cond q 255 0)) 39 0) % 256) (le-ltb 9 v (omega arith)) ∙ small_sum v h ∙ low_digit v l
-  | inr m ↦ ap (λ (q : Bool). ((v + 48) % 256 + cond (top 7 (cond q 255 0)) 39 0) % 256) (lt-ltb 9 v (omega arith)) ∙ large_sum v m h ∙ high_digit v m h
-]
-
-pub lanes_digits : (n : ℕ) (vs : List ℕ) → length vs ≡ n → Each1 (λ v. v < 16) vs →
-    zip2 (λ x y. (x + y) % 256) (zip2 (λ x y. (x + y) % 256) vs (replicate n 48)) (sel_l (map (top 7) (zip2 (λ x y. cond (ltb x y) 255 0) (replicate n 9) vs)) (replicate n 39) (replicate n 0))
-    ≡ map (λ v. get_or lower_digits v 0) vs
-lanes_digits zero [] long below = refl
-lanes_digits zero (v ∷ vs) long below = absurd (omega arith)
-lanes_digits (suc n) [] long below = absurd (omega arith)
-lanes_digits (suc n) (v ∷ vs) long below =
-    ap (λ q. q ∷ zip2 (λ x y. (x + y) % 256) (zip2 (λ x y. (x + y) % 256) vs (replicate n 48)) (sel_l (map (top 7) (zip2 (λ x y. cond (ltb x y) 255 0) (replicate n 9) vs)) (replicate n 39) (replicate n 0))) (lane v below.0)
-    ∙ ap (λ q. get_or lower_digits v 0 ∷ q) (lanes_digits n vs (omega arith) below.1)
+pub digits_looked_up : (t : List ℕ) (i : ℕ) (vs : List ℕ) → i + length vs ≤ 16 → Each1 (λ v. v < 16) vs → swz_l w8 16 t i vs ≡ map (λ v. get_or t v 0) vs
+digits_looked_up t i [] room below = refl
+digits_looked_up t i (v ∷ vs) room below =
+    ap (λ q. q ∷ swz_l w8 16 t (suc i) vs) (get_or-swz_l_below w8 16 t i (v ∷ vs) 0 (omega arith) below.0 ∙ ap (λ q. get_or t q 0) (in_first_block i v (omega arith)))
+    ∙ ap (λ q. get_or t v 0 ∷ q) (digits_looked_up t (suc i) vs (omega arith) below.1) where
+      in_first_block : (i v : ℕ) → i < 16 → 16 * ((i + 0) / 16) + v ≡ v
+      in_first_block i v first = omega arith
 
 -- a list of sixteen is written out
 written_out : (P : List ℕ → Type 0) → ((a b c d e f g h i j k l m n o p : ℕ) → P (a ∷ b ∷ c ∷ d ∷ e ∷ f ∷ g ∷ h ∷ i ∷ j ∷ k ∷ l ∷ m ∷ n ∷ o ∷ p ∷ [])) → (vs : List ℕ) → length vs ≡ 16 → P vs

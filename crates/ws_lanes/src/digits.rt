@@ -8,18 +8,7 @@ use std::simd::prelude::*;
 /// How many bytes are written at a time.
 const LANES: usize = 16;
 
-/// The digit of a value, in lower case.
-#[inline(always)]
-fn digit_of(value: u8) -> u8
-    requires { value < 16 }
-    ensures { result ≡ slice_index lower_digits value }
-{
-    if value < 10 {
-        value + b'0'
-    } else {
-        value - 10 + b'a'
-    }
-}
+const DIGITS: [u8; 16] = *b"0123456789abcdef";
 
 /// The digits of `LANES` values.
 #[inline(always)]
@@ -28,11 +17,7 @@ fn digits_of(values: u8x16) -> u8x16
     requires below { Each1 (λ v. v < 16) values }
     ensures { result ≡ map (λ v. slice_index lower_digits v) values }
 {
-    // behind `9` stand 39 signs that are no digits
-    let more = values
-        .simd_gt(u8x16::splat(9))
-        .select(u8x16::splat(39), u8x16::splat(0));
-    values + u8x16::splat(b'0') + more
+    u8x16::from_array(DIGITS).swizzle_dyn(values)
 }
 
 /// Writes the digits of `LANES` bytes.
@@ -68,7 +53,7 @@ pub fn put_hex(text: &mut [u8], bytes: &[u8])
     }
     'rest: for i in done..bytes.len() {
         let byte = bytes[i];
-        text[2 * i] = digit_of(byte >> 4);
-        text[2 * i + 1] = digit_of(byte & 0x0f);
+        text[2 * i] = DIGITS[usize::from(byte >> 4)];
+        text[2 * i + 1] = DIGITS[usize::from(byte & 0x0f)];
     }
 }

@@ -29,7 +29,8 @@ more-preserved c = record {
 pub rest-preserved : goal.rest-preserved
 rest-preserved c =
     let byte : ℕ = slice_index c.args.bytes.now c.rest.i in
-    encode_step lower_digits c.args.bytes.now c.rest.text c.rest.i _ _ (omega arith) (omega arith) c.digit_of.ensures (c.digit_of-in-rest.ensures ∙ ap (λ (k : ℕ). slice_index lower_digits k) (and_mask byte 4)) c.rest.invariant
+    let digit : ℕ → ℕ = λ k. slice_index lower_digits k in
+    encode_step lower_digits c.args.bytes.now c.rest.text c.rest.i _ _ (omega arith) (omega arith) (ap digit c.from.ensures) (ap digit (c.from-in-rest.ensures ∙ and_mask byte 4)) c.rest.invariant
 
 pub returns : goal.returns
 returns c = encode_done _ _ _ c.rest.i (omega arith) (omega arith) c.rest.invariant
