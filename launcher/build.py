@@ -1,11 +1,10 @@
-#!/usr/bin/env python3
 """Proves and builds the program, in a copy of its crates, by the kit's own gate: `rt ci` proves as many crates side by side as there are processors
 and memory for, those with the longest chain behind them first. Some kits keep what passed, for a build that was interrupted and for the gate. It says
-on standard error how far it is. (`rt lib` locks all crates below its own, so that two of them wait for each other.)"""
+on standard error how far it is."""
 import contextlib
-import ctypes
 import errno
 import fcntl
+import hashlib
 import os
 import pathlib
 import queue
@@ -18,6 +17,7 @@ import tempfile
 import threading
 import time
 
+import children
 import exits
 import kit
 import progress
@@ -26,12 +26,14 @@ import sources
 HEARTBEAT_SECONDS = 30
 # What a build takes at most, in bytes.
 ROOM_NEEDED = 4 << 30
-# The lock has the number of the process that builds.
+# The lock has the number of the process that builds, while it does.
 LOCK, LOG = sources.OUT / "build.lock", sources.OUT / "build.log"
 # How far the build under way is, and how the last one ended that didn't end well: its status and why.
 PROGRESS, FAILED = sources.OUT / "build.progress", sources.OUT / "build.failed"
 ENDED = re.compile(r"^rt: (\w+) (proved|is kept)\b")
-DIES_WITH_PARENT = 1
+BEGINS, DONE = "the proof begins", "the program is proved and built"
+# The signals that end a build: not those which who started it had ignored, as nohup does.
+ENDS = [it for it in (signal.SIGTERM, signal.SIGINT, signal.SIGHUP) if signal.getsignal(it) is not signal.SIG_IGN]
 
 
 def lock():
@@ -51,10 +53,14 @@ def lock():
 
 @contextlib.contextmanager
 def room():
-    """A folder for the copy, which goes as the build ends. Where TMPDIR names none it is in /var/tmp, since a build takes gigabytes."""
+    """A folder for the copy, which goes as the build ends; and before it one that a killed build of this checkout left. Where TMPDIR names none it is
+    in /var/tmp, since a build takes gigabytes."""
     top = os.environ.get("TMPDIR") or ("/var/tmp" if os.access("/var/tmp", os.W_OK) else None)
+    prefix = f"streams-build-{hashlib.sha256(os.fsencode(sources.ROOT)).hexdigest()[:12]}-"
     try:
-        folder = tempfile.mkdtemp(prefix="streams-build-", dir=top)
+        for left in pathlib.Path(top or tempfile.gettempdir()).glob(f"{prefix}*"):
+            shutil.rmtree(left, ignore_errors=True)
+        folder = tempfile.mkdtemp(prefix=prefix, dir=top)
     except OSError as error:
         raise exits.Stop(exits.NO_FOLDER, f"{top or 'the folder for temporary files'} can't be written: {error.strerror}; set TMPDIR to one that can") from None
     try:
@@ -66,12 +72,17 @@ def room():
         shutil.rmtree(folder, ignore_errors=True)
 
 
+def write(path, text):
+    """Gives a file this text, at once: a reader meets the old one or the new."""
+    new = path.with_name(f"{path.name}.new")
+    new.write_text(text)
+    os.replace(new, path)
+
+
 def tell(line):
     """Says how far the build is, here and to those who wait for it."""
     exits.say(line)
-    new = PROGRESS.with_suffix(".new")
-    new.write_text(line)
-    os.replace(new, PROGRESS)
+    write(PROGRESS, line)
 
 
 def lines_of(running):
@@ -83,7 +94,10 @@ def lines_of(running):
             lines.put(line)
         lines.put(None)
 
-    threading.Thread(target=read, daemon=True).start()
+    try:
+        threading.Thread(target=read, daemon=True).start()
+    except RuntimeError:
+        raise exits.Stop(exits.NO_PROCESS, "a thread can't be started") from None
     while True:
         try:
             line = lines.get(timeout=1)
@@ -96,12 +110,11 @@ def lines_of(running):
 
 def prove(folder):
     """Proves and builds the copy, says how far it is, and stops where that fails."""
-    with_parent = ctypes.CDLL(None).prctl
     try:
-        # What rt starts ends with rt; and rt with this process, however this ends.
+        # What rt starts ends with rt; and rt with this process.
         running = subprocess.Popen(
             ["rt", "ci"], cwd=folder, stdin=subprocess.DEVNULL, stdout=subprocess.PIPE, stderr=subprocess.STDOUT, text=True, errors="replace",
-            preexec_fn=lambda: with_parent(DIES_WITH_PARENT, signal.SIGKILL),
+            preexec_fn=children.ended_by(signal.SIGKILL),
         )
     except OSError as error:
         raise exits.Stop(exits.NO_PROCESS, f"rt can't be started: {error.strerror}") from None
@@ -123,68 +136,92 @@ def prove(folder):
         running.kill()
         running.wait()
     if status:
-        print("".join(said), end="", file=sys.stderr)
+        if sys.stderr is not None:
+            with contextlib.suppress(OSError):
+                print("".join(said), end="", file=sys.stderr)
         raise exits.Stop(exits.NOT_PROVED, "a crate could not be proved, or the program not built: what rt said stands above")
 
 
-def install(made, told):
-    """Puts the program where it is run from. A run beside this one meets the old program or the new."""
+def install(made, told, begun):
+    """Puts the program where it is run from. A run beside this one meets the old program or the new. Sources that changed since the build began are
+    newer than it."""
     new = sources.OUT / f"{sources.PROGRAM}.new"
     shutil.copy(made, new)
+    os.utime(new, (begun, begun))
     sources.SUM.unlink(missing_ok=True)
     os.replace(new, sources.BUILT)
-    sources.SUM.write_text(sources.sums_of(sources.BUILT, told))
+    write(sources.SUM, sources.sums_of(sources.BUILT, told))
 
 
 def make():
     """Proves, builds and installs the program."""
     begun = time.time()
+    with room() as folder:
+        sources.copy_to(folder)
+        # (of what is proved, and not of what may change beside it)
+        told = sources.sum_of(folder)
+        prove(folder)
+        install(folder / "crates" / sources.PROGRAM / "out" / sources.PROGRAM, told, begun)
+
+
+@contextlib.contextmanager
+def causes():
+    """Stops, with its cause, where a file can't be read or written."""
     try:
-        with room() as folder:
-            told = sources.sum_of()
-            sources.copy_to(folder)
-            prove(folder)
-            install(folder / "crates" / sources.PROGRAM / "out" / sources.PROGRAM, told)
-            # Sources that changed meanwhile are newer than it.
-            os.utime(sources.BUILT, (begun, begun))
+        yield
     except OSError as error:
         if error.errno in (errno.ENOSPC, errno.EDQUOT):
             raise exits.Stop(exits.NO_ROOM, f"there is no room left on the disk ({error.filename}): make room, or set TMPDIR") from None
         raise exits.Stop(exits.NO_FOLDER, f"{error.filename or 'a file'} can't be read or written: {error.strerror}") from None
 
 
-def end(number, _):
-    """Ends the build where its process is told to end."""
-    signal.signal(number, signal.SIG_IGN)
+def end(*_):
+    """Ends the build where its process is told to end. That it is told again doesn't keep it from leaving nothing."""
+    for it in ENDS:
+        signal.signal(it, signal.SIG_IGN)
     left = "what was proved is kept, and the next one goes on from there" if kit.keeps() else "this kit's rt ci keeps nothing, so the next one begins anew"
     raise exits.Stop(exits.ENDED, f"the build was ended before it was done: {left}")
 
 
 def build():
     """Builds the program. The caller holds the lock."""
-    for number in (signal.SIGTERM, signal.SIGINT, signal.SIGHUP):
+    for number in ENDS:
         signal.signal(number, end)
-    for path in (PROGRESS, FAILED):
-        path.unlink(missing_ok=True)
-    LOCK.write_text(f"{os.getpid()}\n")
-    tell("the proof begins")
     try:
-        make()
+        with causes():
+            forget()
+            LOCK.write_text(f"{os.getpid()}\n")
+            tell(BEGINS)
+            make()
+            tell(DONE)
     except exits.Stop as why:
         # (a full disk has no room for that either)
         with contextlib.suppress(OSError):
-            FAILED.write_text(f"{why.status} {why}")
+            write(FAILED, f"{why.status} {why}")
         raise
-    tell("the program is proved and built")
+    finally:
+        with contextlib.suppress(OSError):
+            os.truncate(LOCK, 0)
+
+
+def forget():
+    """Removes what the build before told."""
+    for path in (PROGRESS, FAILED):
+        path.unlink(missing_ok=True)
 
 
 def start():
     """Has the program built by a process of its own, unless one is at work. It takes the lock over, and writes into a log."""
     held = lock()
     if held:
-        with held, open(LOG, "w") as log:
+        with causes(), held, open(LOG, "w") as log:
+            forget()
+            held.truncate(0)
             how = {"stdin": subprocess.DEVNULL, "stdout": log, "stderr": log, "start_new_session": True}
-            subprocess.Popen([sys.executable, "-B", __file__], pass_fds=[held.fileno()], **how)
+            try:
+                subprocess.Popen([sys.executable, "-B", __file__], pass_fds=[held.fileno()], **how)
+            except OSError as error:
+                raise exits.Stop(exits.NO_PROCESS, f"a process can't be started: {error.strerror}") from None
 
 
 def how_far():
@@ -192,7 +229,24 @@ def how_far():
     try:
         return PROGRESS.read_text()
     except OSError:
-        return "the proof begins"
+        return BEGINS
+
+
+def failure():
+    """How the last build ended that didn't end well: its status and why. None where it did, or is under way."""
+    try:
+        status, _, why = FAILED.read_text().partition(" ")
+    except OSError:
+        return None
+    return int(status), f"{why} ({LOG})" if int(status) == exits.NOT_PROVED else why
+
+
+def account():
+    """How it stands with the build that was started, in a sentence."""
+    failed, far = failure(), how_far()
+    if failed:
+        return f"The proof ended without a program: {failed[1]}"
+    return "By now the program is proved and built" if far == DONE else f"The proof goes on ({far}; {LOG})"
 
 
 def follow():
@@ -208,10 +262,9 @@ def follow():
             exits.say(line)
             said, since = line, now
         time.sleep(0.5)
-    if FAILED.exists():
-        status, _, why = FAILED.read_text().partition(" ")
-        if int(status) != exits.ENDED:
-            raise exits.Stop(int(status), f"{why} ({LOG})" if int(status) == exits.NOT_PROVED else why)
+    failed = failure()
+    if failed and failed[0] != exits.ENDED:
+        raise exits.Stop(*failed)
 
 
 def wait(started):
@@ -228,7 +281,7 @@ def wait(started):
             # (who held it before may have built it)
             if not sources.is_built():
                 build()
-    for number in (signal.SIGTERM, signal.SIGINT, signal.SIGHUP):
+    for number in ENDS:
         signal.signal(number, signal.SIG_DFL)
 
 

@@ -1,11 +1,11 @@
 """A first answer, while the program is being proved: `rt try` builds the program in a minute or two without a proof, and runs it on a small job."""
-import ctypes
 import os
 import re
 import signal
 import subprocess
 
 import build
+import children
 import exits
 import given
 import sources
@@ -13,11 +13,15 @@ import sources
 WRITE_FAULT = 5
 # What ends rt's account of a program that came to its end. What stands before it are the program's own notes.
 ENDED = re.compile(rb"^(?:interpreter: .*\n)?checked: ended status=(\d+)\n(?:.*\n)*run=ended status=\1 .*proved=no\n\Z", re.MULTILINE)
-UNPROVED = (
-    "this answer is of a build that isn't proved yet: its accesses, sums and unwraps were checked as it ran, its contracts weren't. "
-    "The proof goes on ({}; {})"
+WAITS = (
+    "the program isn't proved yet, and this waits for it, with its input kept: a first answer takes an input that is a file or a pipe, "
+    "of at most 64 MiB that end without a pause of 2 s, and a pipeline file that can be read twice"
 )
-DIES_WITH_PARENT = 1
+UNPROVED = (
+    "this answer is of a build that isn't proved yet: its accesses, sums and unwraps were checked as it ran, its contracts weren't. {}"
+)
+# The statuses of a program that has read nothing: wrong words, a file that is refused, and one that can't be loaded.
+UNREAD = (2, 3, 9)
 # The words behind which the name of a pipeline file stands.
 BEFORE_A_FILE = (["run"], ["run", "--trace"], ["check"])
 
@@ -32,16 +36,20 @@ def job(words):
     if not before_a_file(command) or words == ["run", "--trace"]:
         return words, []
     if os.path.isfile(file) and os.access(file, os.R_OK):
-        return [*command, "plan.toml"], ["--data", f"plan.toml={os.path.abspath(file)}"]
+        return [*command, "plan.toml"], ["--data", f"plan.toml={os.path.realpath(file)}"]
     if os.path.exists(file) and not os.path.isdir(file) and not os.path.isfile(file):
         return None
     # There is no such file in the folder that rt runs the program in either.
     return [*command, "missing.toml"], []
 
 
+def reads_input(words, files):
+    """Whether the program reads its input for these words, of which these name files that are there."""
+    return words in (["run"], ["script"]) or words[:1] == ["run"] and files != []
+
+
 def tried(words, data, flags):
     """The status, the output and the notes of an unproved run, or None where it has no answer, as after a minute, or with more than 1 MiB of output."""
-    with_parent = ctypes.CDLL(None).prctl
     try:
         ran = subprocess.run(
             ["rt", "try", *flags, "--", *words],
@@ -49,7 +57,7 @@ def tried(words, data, flags):
             input=data,
             capture_output=True,
             env={name: value for name, value in os.environ.items() if name != "RT_SECONDS"},
-            preexec_fn=lambda: with_parent(DIES_WITH_PARENT, signal.SIGTERM),
+            preexec_fn=children.ended_by(signal.SIGTERM),
         )
     except OSError as error:
         raise exits.Stop(exits.NO_PROCESS, f"rt can't be started: {error.strerror}") from None
@@ -76,19 +84,19 @@ def answer(words):
     """Starts the build, and answers a small job meanwhile: its exit status, or None where the job waits for the proved program."""
     build.start()
     what = job(words)
-    reads = words[:1] in (["run"], ["script"])
+    reads = what is not None and reads_input(words, what[1])
     data = None
     if what and 1 not in given.INPUT.closed:
         data = given.take() if reads else b""
     if data is None:
-        exits.say("the program isn't proved yet, and this waits for it, with its input kept: its input doesn't end by itself or is longer than 64 MiB, or one of its files can be read only once")
+        exits.say(WAITS)
         return None
     exits.say("the program isn't proved yet: a build without a proof answers in a minute or two")
     ran = tried(*what[:1], data, what[1])
     if ran is None:
         exits.say("there is no answer without a proof, as where a run takes more than a minute or puts out more than 1 MiB: this waits for the proved program, with its input kept")
         return None
-    exits.say(UNPROVED.format(build.how_far(), build.LOG))
-    if reads:
+    exits.say(UNPROVED.format(build.account()))
+    if reads and ran[0] not in UNREAD:
         given.answered(len(data))
     return hand_out(*ran)

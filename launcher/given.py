@@ -4,6 +4,8 @@ import select
 import stat
 import tempfile
 
+import exits
+
 # The most that a first answer takes, in bytes, and how long it waits for more.
 MOST, SILENCE_SECONDS = 64 << 20, 2
 PIECE = 1 << 16
@@ -33,11 +35,26 @@ def keep_closed():
 
 
 def take():
-    """The whole input, or None where it is a terminal or closed, doesn't end for now, or is too long."""
-    if 0 in INPUT.closed or os.isatty(0):
+    """The whole input, or None where it is no file or pipe, doesn't end for now, is too long or can't be read. Of a socket or a terminal nothing is
+    taken: a read of it may fail, and the program couldn't be given that."""
+    if 0 in INPUT.closed:
         return None
-    if stat.S_ISREG(os.fstat(0).st_mode):
-        return of_file()
+    try:
+        kind = os.fstat(0)
+        if stat.S_ISREG(kind.st_mode):
+            return of_file()
+        return of_pipe() if stat.S_ISFIFO(kind.st_mode) or is_null(kind) else None
+    except OSError:
+        return None
+
+
+def is_null(kind):
+    """Whether that is the file without a byte."""
+    return stat.S_ISCHR(kind.st_mode) and kind.st_rdev == os.stat(os.devnull).st_rdev
+
+
+def of_pipe():
+    """What comes out of a pipe, which is taken from it."""
     while len(INPUT.taken) <= MOST and select.select([0], [], [], SILENCE_SECONDS)[0]:
         more = os.read(0, PIECE)
         if not more:
@@ -81,7 +98,11 @@ def restore():
 def feed():
     """Has a process of its own give what was taken, and then what is still to come, for as long as somebody reads it."""
     end, to = os.pipe()
-    if os.fork() == 0:
+    try:
+        child = os.fork()
+    except OSError as error:
+        raise exits.Stop(exits.NO_PROCESS, f"a process can't be started: {error.strerror}") from None
+    if child == 0:
         try:
             os.close(end)
             for number in (1, 2):

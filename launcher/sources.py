@@ -4,6 +4,7 @@ import hashlib
 import os
 import pathlib
 import shutil
+import time
 
 ROOT = pathlib.Path(__file__).resolve().parent.parent
 PROGRAM = "streams"
@@ -11,8 +12,8 @@ OUT = ROOT / "crates" / PROGRAM / "out"
 BUILT = OUT / PROGRAM
 # The sums of the sources that the program was built of, and of the program.
 SUM = OUT / "sources.sum"
-# Beside src/, specs/ and proofs/ what the program's stored run is made of.
-PARTS = ("src", "specs", "proofs", "args", "stdin", "stdout", "status", "data")
+# What is proved, and what the program's stored run is made of.
+PROVED, RUN = ("src", "specs", "proofs"), ("args", "stdin", "stdout", "status", "data")
 
 
 @functools.lru_cache(maxsize=None)
@@ -40,27 +41,27 @@ def needed():
     return found
 
 
-def is_source(path):
-    """Whether a file is read by a proof: what an editor leaves beside one isn't."""
-    return not path.name.startswith(".") and not path.name.endswith("~")
+def is_source(path, part):
+    """Whether a file is read as the program is built: what an editor leaves beside one isn't. `streams` asks the same of what is proved."""
+    return path.is_file() and not path.name.startswith(".") and (part in RUN or path.suffix in (".rt", ".antt"))
 
 
-def files():
-    """The files that the program is built of."""
+def files(top=ROOT):
+    """The files that the program is built of, in the checkout or in a copy."""
     for crate in sorted(needed()):
-        for part in PARTS:
-            path = ROOT / "crates" / crate / part
+        for part in PROVED + RUN:
+            path = top / "crates" / crate / part
             if path.is_dir():
-                yield from sorted(it for it in path.rglob("*") if it.is_file() and is_source(it))
+                yield from sorted(it for it in path.rglob("*") if is_source(it, part))
             elif path.exists():
                 yield path
 
 
-def sum_of():
+def sum_of(top=ROOT):
     """A checksum of all that the program is built of."""
     told = hashlib.sha256("\n".join(rows()[crate] for crate in sorted(needed())).encode())
-    for path in [ROOT / "HANDLES", *files()]:
-        told.update(f"\n{path.relative_to(ROOT)}\n".encode())
+    for path in [top / "HANDLES", *files(top)]:
+        told.update(f"\n{path.relative_to(top)}\n".encode())
         told.update(path.read_bytes())
     return told.hexdigest()
 
@@ -72,10 +73,12 @@ def sums_of(program, of_sources):
 
 def is_built():
     """Whether the program is there and is the one that was built of these sources. A file that was only touched changes nothing."""
+    asked = time.time()
     if not os.access(BUILT, os.X_OK) or not SUM.exists() or SUM.read_text() != sums_of(BUILT, sum_of()):
         return False
     try:
-        os.utime(BUILT)
+        # (what changes from here on is newer)
+        os.utime(BUILT, (asked, asked))
     except OSError:
         # It is asked again next time.
         pass

@@ -19,8 +19,9 @@ def run(words):
 
 
 def main(words):
-    # As the program has it, a process that is told to end by Ctrl-C or a signal just ends.
-    signal.signal(signal.SIGINT, signal.SIG_DFL)
+    # As the program has it, a process that is told to end by Ctrl-C just ends, unless who started it had that ignored.
+    if signal.SIGINT in build.ENDS:
+        signal.signal(signal.SIGINT, signal.SIG_DFL)
     given.keep_closed()
     try:
         if not sources.is_built():

@@ -6,6 +6,7 @@ import re
 import select
 import shutil
 import signal
+import socket
 import subprocess
 import sys
 import tempfile
@@ -77,7 +78,7 @@ class Launcher(unittest.TestCase):
         self.assertEqual(self.run_streams("run", given=b"x", env={"STREAMS_PROVED": "1"}).stdout, b"x")
 
     def assert_ended(self, ran, status, words):
-        """Whether the launcher said why it ended, in one line of these words, and nothing else."""
+        """Whether the launcher said why it ended, in these words, with nothing on its output and no traceback."""
         self.assertEqual((ran.returncode, ran.stdout), (status, b""), ran.stderr)
         said = ran.stderr.decode()
         self.assertRegex(said, words)
@@ -132,6 +133,20 @@ class Launcher(unittest.TestCase):
         self.assertEqual(ran.returncode, 5, ran.stderr)
         self.assertTrue(ran.stderr.endswith(b"\nwrite fault\n"))
 
+    def test_a_file_that_the_program_does_not_read_is_left_where_it_was(self):
+        (self.folder / "in").write_bytes(b"some bytes")
+        with open(self.folder / "in", "rb") as given:
+            for words, status in ((["run", "none.toml"], 9), (["run", "--trace"], 2), (["check", "none.toml"], 9)):
+                ran = subprocess.run([self.top / "streams", *words], stdin=given, capture_output=True, env=self.env, timeout=60)
+                self.assertEqual((ran.returncode, os.lseek(given.fileno(), 0, os.SEEK_CUR)), (status, 0), ran.stderr)
+
+    def test_a_pipeline_file_that_is_the_standard_input(self):
+        (self.folder / "in").write_bytes(b"a plan\n")
+        with open(self.folder / "in", "rb") as given:
+            ran = subprocess.run([self.top / "streams", "check", "/dev/stdin"], stdin=given, capture_output=True, env=self.env, timeout=60)
+        self.assertEqual((ran.returncode, ran.stdout), (0, b"a plan\n"), ran.stderr)
+        self.assertEqual(len(self.calls("try")), 1)
+
     def test_a_file_is_left_behind_what_was_answered(self):
         (self.folder / "in").write_bytes(b"some bytes")
         with open(self.folder / "in", "rb") as given:
@@ -180,12 +195,32 @@ class Launcher(unittest.TestCase):
         self.assertTrue(ran.stdout == much)
         self.assertEqual(self.calls("try"), [])
 
-    def test_a_reader_that_is_done_leaves_no_process(self):
-        asked = subprocess.Popen([self.top / "streams", "what", "now"], stdin=subprocess.PIPE, stdout=subprocess.PIPE, stderr=subprocess.PIPE, env=self.env)
+    def test_a_program_that_is_done_before_its_input_leaves_no_process(self):
+        # (the stub takes `script` for no command, and ends)
+        asked = subprocess.Popen([self.top / "streams", "script"], stdin=subprocess.PIPE, stdout=subprocess.PIPE, stderr=subprocess.PIPE, env=self.env)
+        asked.stdin.write(b"first\n")
+        asked.stdin.flush()
         self.assertEqual(asked.wait(20), 2)
-        asked.stdin.close()
-        asked.stdout.close()
-        asked.stderr.close()
+        self.assertIn(b"this waits for it", asked.stderr.read())
+        self.until(lambda: not self.living(), "a process is left, though nobody reads what it would give")
+        for it in (asked.stdin, asked.stdout, asked.stderr):
+            it.close()
+
+    def test_of_a_socket_nothing_is_taken(self):
+        here, there = socket.socketpair()
+        with here, there:
+            asked = subprocess.Popen([self.top / "streams", "run"], stdin=there, stdout=subprocess.PIPE, stderr=subprocess.PIPE, env=self.env)
+            here.sendall(b"sent\n")
+            here.shutdown(socket.SHUT_WR)
+            out, said = asked.communicate(timeout=20)
+        self.assertEqual((asked.returncode, out), (0, b"sent\n"), said)
+        self.assertEqual(self.calls("try"), [])
+
+    def test_an_input_that_cannot_be_read_is_the_programs(self):
+        with open(self.folder / "out", "wb") as unreadable:
+            ran = subprocess.run([self.top / "streams", "run"], stdin=unreadable, capture_output=True, env=self.env, timeout=60)
+        self.assertEqual((ran.returncode, ran.stdout), (1, b""), ran.stderr)
+        self.assertIn(b"Bad file descriptor", ran.stderr)
 
     def test_a_closed_input_stays_closed(self):
         ran = subprocess.run(["sh", "-c", 'exec "$0" run <&-', self.top / "streams"], capture_output=True, env=self.env, timeout=60)
@@ -213,7 +248,7 @@ class Launcher(unittest.TestCase):
         # Before a crate is proved nobody knows how fast this machine is.
         self.assertRegex(ran.stderr.decode(), r"proving: 0 % of the work, 0 min 0\d s, about \d min \d\d s left on the machine of docs/GATE.md\n")
 
-    def test_two_at_once_prove_once(self):
+    def test_three_at_once_prove_once(self):
         self.set("ci_seconds", "2")
         asked = [
             subprocess.Popen([self.top / "streams", "run"], stdin=subprocess.DEVNULL, stdout=subprocess.PIPE, stderr=subprocess.PIPE, env={**self.env, "STREAMS_PROVED": "1"})
@@ -226,11 +261,11 @@ class Launcher(unittest.TestCase):
 
     def test_a_build_that_is_ended_leaves_nothing_and_can_be_started_again(self):
         self.set("ci_seconds", "60")
-        for number, how in ((signal.SIGINT, {}), (signal.SIGTERM, {}), (signal.SIGHUP, {})):
-            asked = subprocess.Popen(
-                [self.top / "streams", "run"], stdin=subprocess.DEVNULL, stdout=subprocess.PIPE, stderr=subprocess.PIPE, env={**self.env, "STREAMS_PROVED": "1"}, **how
-            )
+        for number in (signal.SIGINT, signal.SIGTERM, signal.SIGHUP):
             before = len(self.calls("ci"))
+            asked = subprocess.Popen(
+                [self.top / "streams", "run"], stdin=subprocess.DEVNULL, stdout=subprocess.PIPE, stderr=subprocess.PIPE, env={**self.env, "STREAMS_PROVED": "1"}
+            )
             self.until(lambda: len(self.calls("ci")) > before, "rt is at work")
             asked.send_signal(number)
             _, said = asked.communicate(timeout=20)
@@ -240,6 +275,16 @@ class Launcher(unittest.TestCase):
             self.assertEqual(list(self.tmp.iterdir()), [])
         self.set("ci_seconds", "0")
         self.built()
+
+    def test_a_build_that_is_not_to_hear_of_a_hangup(self):
+        self.set("ci_seconds", "2")
+        asked = subprocess.Popen(
+            ["nohup", self.top / "streams", "run"], stdin=subprocess.DEVNULL, stdout=subprocess.PIPE, stderr=subprocess.PIPE, env={**self.env, "STREAMS_PROVED": "1"}
+        )
+        self.until(lambda: self.calls("ci"), "rt is at work")
+        asked.send_signal(signal.SIGHUP)
+        _, said = asked.communicate(timeout=20)
+        self.assertEqual(asked.returncode, 0, said)
 
     def ended_behind_low(self):
         """What a build says that is ended once the crate low was proved."""
@@ -273,19 +318,27 @@ class Launcher(unittest.TestCase):
         asked.kill()
         asked.communicate(timeout=20)
         self.until(lambda: not self.living(), "a process is left")
+        # What it left of its copy goes with the next build.
+        self.assertEqual(len(list(self.tmp.iterdir())), 1)
+        self.set("ci_seconds", "0")
+        self.built()
+        self.assertEqual(list(self.tmp.iterdir()), [])
 
     def test_a_build_that_goes_on_by_itself_can_be_ended(self):
         self.set("ci_seconds", "60")
         self.assertEqual(self.run_streams("run", given=b"x").stdout, b"x")
         self.until(lambda: self.calls("ci"), "rt is at work")
-        os.kill(int((self.top / "crates/streams/out/build.lock").read_text()), signal.SIGTERM)
+        lock = self.top / "crates/streams/out/build.lock"
+        os.kill(int(lock.read_text()), signal.SIGTERM)
         self.until(lambda: not self.living(), "a process is left")
+        self.assertEqual(lock.read_text(), "")
         self.assertIn("was ended before it was done", (self.top / "crates/streams/out/build.log").read_text())
 
     def test_ctrl_c_while_an_answer_is_made(self):
         self.set("ci_seconds", "3")
-        asked = subprocess.Popen([self.top / "streams", "run"], stdin=subprocess.PIPE, stdout=subprocess.PIPE, stderr=subprocess.PIPE, env=self.env)
-        self.until(lambda: self.calls("ci"), "the build is at work")
+        self.set("no_answer", "60")
+        asked = subprocess.Popen([self.top / "streams", "run"], stdin=subprocess.DEVNULL, stdout=subprocess.PIPE, stderr=subprocess.PIPE, env=self.env)
+        self.until(lambda: self.calls("try"), "an answer is made")
         asked.send_signal(signal.SIGINT)
         _, said = asked.communicate(timeout=20)
         self.assertEqual(asked.returncode, -signal.SIGINT, said)
@@ -307,15 +360,29 @@ class Launcher(unittest.TestCase):
             self.assertIn("build.log", said)
             self.assertEqual(len(self.calls("ci")), proofs + 1, "the proof was begun again")
 
+    def test_an_answer_beside_a_proof_that_failed_says_so(self):
+        self.set("ci_status", "1")
+        self.set("try_seconds", "2")
+        ran = self.run_streams("run", given=b"x")
+        self.assertEqual((ran.returncode, ran.stdout), (0, b"x"), ran.stderr)
+        self.assertIn(b"The proof ended without a program: a crate could not be proved", ran.stderr)
+
+    def test_a_proof_that_fails_where_nobody_hears_of_it(self):
+        self.set("ci_status", "1")
+        ran = subprocess.run(["sh", "-c", 'exec "$0" run 2>&-', self.top / "streams"], input=b"x", capture_output=True, env={**self.env, "STREAMS_PROVED": "1"}, timeout=60)
+        self.assertEqual((ran.returncode, ran.stdout, ran.stderr), (70, b"", b""))
+
     # What is older than its sources, and what isn't.
 
     def test_what_an_editor_leaves_is_no_source(self):
         self.built()
         ahead = time.time() + 100
-        for name in (".lib.rt.swp", ".#lib.rt", "lib.rt~", "notes.txt"):
+        for name in (".lib.rt.swp", ".#lib.rt", "#lib.rt#", "lib.rt~", "lib.rt.orig", "notes.txt"):
             path = self.top / "crates/low/src" / name
             path.write_text("x")
             os.utime(path, (ahead, ahead))
+        # (and where all is summed, since one was touched)
+        os.utime(self.top / "crates/low/src/lib.rt", (ahead, ahead))
         ran = self.run_streams("run", given=b"x")
         self.assertEqual((ran.returncode, ran.stdout, ran.stderr), (0, b"x", b""))
         self.assertEqual(len(self.calls("ci")), 1)
@@ -335,6 +402,15 @@ class Launcher(unittest.TestCase):
         (self.top / "crates/low/src/lib.rt").write_text("//! changed\n")
         ran = self.run_streams("run", given=b"x", env={"STREAMS_PROVED": "1"})
         self.assertEqual((ran.returncode, ran.stdout), (0, b"x"))
+        self.assertIn(b"older than its sources", ran.stderr)
+        self.assertEqual(len(self.calls("ci")), 2)
+
+    def test_a_source_that_is_gone(self):
+        (self.top / "crates/low/src/more.rt").write_text("//! more\n")
+        self.built()
+        time.sleep(0.05)
+        (self.top / "crates/low/src/more.rt").unlink()
+        ran = self.run_streams("run", given=b"x", env={"STREAMS_PROVED": "1"})
         self.assertIn(b"older than its sources", ran.stderr)
         self.assertEqual(len(self.calls("ci")), 2)
 
@@ -364,8 +440,10 @@ class Launcher(unittest.TestCase):
         self.top.rename(self.folder / "-x")
         ran = self.run_streams("run", given=b"x", program="-x/streams")
         self.assertEqual((ran.returncode, ran.stdout, ran.stderr), (0, b"x", b""))
+        # (and where the launcher itself is called)
+        (self.folder / "-x/crates/streams/out/streams").unlink()
         self.set("version", "none")
-        self.run_streams("run", given=b"x", program="-x/streams")
+        self.assert_ended(self.run_streams("run", given=b"x", program="-x/streams"), 78, "^streams: rt is of none")
 
     def test_help(self):
         ran = self.run_streams("--help")
@@ -397,13 +475,12 @@ class Launcher(unittest.TestCase):
 
     def test_without_rt_a_program_that_is_built_runs(self):
         self.built()
-        (self.bin / "rt").unlink()
-        self.assertEqual(self.run_streams("run", given=b"x").stdout, b"x")
+        env = {"PATH": str(self.tools())}
+        self.assertEqual(self.run_streams("run", given=b"x", env=env).stdout, b"x")
         time.sleep(0.05)
         (self.top / "crates/low/src/lib.rt").write_text("//! changed\n")
-        if shutil.which("rt") is None:
-            said = self.assert_ended(self.run_streams("run"), 72, "isn't found")
-            self.assertIn("older than its sources", said)
+        said = self.assert_ended(self.run_streams("run", env=env), 72, "isn't found")
+        self.assertIn("older than its sources", said)
 
     def test_a_kit_of_another_name_with_the_same_logic_is_taken(self):
         self.assertNotIn(b"rt is of", self.run_streams("run", given=b"x").stderr)
