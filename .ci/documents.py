@@ -1,6 +1,8 @@
 """The examples of the documents. Each document runs in a folder of its own."""
+import os
 import pathlib
 import re
+import signal
 import subprocess
 import tempfile
 from typing import NamedTuple
@@ -34,16 +36,30 @@ def examples_of(block):
 
 
 def prints(command, folder):
-    """What a command prints in this folder."""
-    done = subprocess.run(
+    """What a command prints in this folder. Where it takes too long all that it started is killed."""
+    with subprocess.Popen(
         ["sh", "-c", command],
         cwd=folder,
         stdin=subprocess.DEVNULL,
         stdout=subprocess.PIPE,
         stderr=subprocess.PIPE,
-        timeout=SECONDS,
-    )
-    return Printed(*(text.decode("utf-8", "replace") for text in (done.stdout, done.stderr)))
+        start_new_session=True,
+    ) as running:
+        try:
+            texts = running.communicate(timeout=SECONDS)
+        except subprocess.TimeoutExpired:
+            os.killpg(running.pid, signal.SIGKILL)
+            raise
+    return Printed(*(text.decode("utf-8", "replace") for text in texts))
+
+
+def differs(command, wanted, folder):
+    """What differs of an example, or None."""
+    try:
+        printed = prints(command, folder)
+    except subprocess.TimeoutExpired:
+        return f"doesn't end in {SECONDS} s"
+    return None if printed == wanted else f"is to print\n{wanted}and printed\n{printed}"
 
 
 def outcomes(document):
@@ -57,9 +73,8 @@ def outcomes(document):
                 pathlib.Path(folder, "plan.toml").write_text(block)
                 continue
             for command, wanted in examples_of(block):
-                printed = prints(command, folder)
-                differs = f"{document.name}: $ {command}\nis to print\n{wanted}and printed\n{printed}"
-                found.append(None if printed == wanted else differs)
+                what = differs(command, wanted, folder)
+                found.append(what and f"{document.name}: $ {command}\n{what}")
     return found
 
 

@@ -7,6 +7,7 @@ of `toml` is the file plan.toml for the commands below it. cases/README.md tells
 import os
 import subprocess
 import sys
+import traceback
 from concurrent.futures import ThreadPoolExecutor
 
 from cases import NotWanted, all_cases, strays
@@ -24,7 +25,18 @@ def outcome(case):
         differs = case.differs()
     except (NotWanted, subprocess.TimeoutExpired) as why:
         differs = str(why)
+    except Exception:
+        # (so the others are told as well)
+        differs = traceback.format_exc()
     return differs and f"{case.name}: {differs}"
+
+
+def outcomes_of(document):
+    """Of each example of a document what differs, or None."""
+    try:
+        return outcomes(document)
+    except Exception:
+        return [f"{document.name}: {traceback.format_exc()}"]
 
 
 def main():
@@ -37,7 +49,7 @@ def main():
         print(f"examples: {why}")
         return 1
     with ThreadPoolExecutor(os.cpu_count()) as pool:
-        of_documents = pool.map(outcomes, all_documents())
+        of_documents = pool.map(outcomes_of, all_documents())
         of_cases = pool.map(outcome, cases)
         found = [*sum(of_documents, []), *of_cases]
     found += [f"{path}: this file belongs to no case" for path in strays(cases)]

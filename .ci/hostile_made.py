@@ -49,8 +49,6 @@ def many_that_wait():
     read = read.replace("3 promise p0\n", "", 1)
     last = WAITING + 3
     each = range(WAITING)
-    closed, asked = promises(3, WAITING, "closed l0")
-    closed_before = closed.replace("closed l0\n", "", 1)
     return [
         *(
             made_script(
@@ -62,7 +60,7 @@ def many_that_wait():
         ),
         made_script(
             "one promise a hundred thousand times",
-            "readable 0 count now\nreader s0\nclosed l0\n" + closed_before + "finish s0\n",
+            "readable 0 count now\nreader s0\n" + "closed l0\n" * WAITING + "finish s0\n",
             "1 made s0\n2 lock l0\n"
             + "".join(f"{n + 3} promise p0\n" for n in each)
             + f"{last} done\n  p0 fulfilled undefined\n",

@@ -9,6 +9,7 @@ fails.
 
 The last lines say how many calls ended with which status, how long the longest took, and how many there were. The
 program is the one that STREAMS of the environment names, or else that which the gate built."""
+import contextlib
 import os
 import resource
 import signal
@@ -22,7 +23,7 @@ from concurrent.futures import ThreadPoolExecutor
 from pathlib import Path
 from typing import Callable, NamedTuple
 
-from program import NAME, PROGRAM, SECONDS, TEXTS
+from program import NAME, PROGRAM, SECONDS, TEXTS, killed_if_late
 
 KIB = 1024
 # Of how many lines and reads the inputs are, and a short one.
@@ -36,6 +37,7 @@ DELAYS = [0, 0.002, 0.005, 0.01, 0.02, 0.05]
 
 HEX = b'version = 1\n[[stage]]\nkind = "hex"\n'
 NUMBERED = b'version = 1\nworkers = 2\n[[stage]]\nkind = "lines"\n[[stage]]\nkind = "number"\nworker = 2\n'
+UNHEX = b'version = 1\nworkers = 2\n[[stage]]\nkind = "unhex"\n[[stage]]\nkind = "hex"\nworker = 2\n'
 LEAST = b"version = 1\nmax_input = 1000000\n"
 # Files, and what is told of each as a pipeline file: one is too long, one is empty, and the others can't be read.
 NO_PLANS = ((b"/dev/zero", b"plan refused 8\n"), (b"/dev/null", b"plan refused 10\n"))
@@ -125,15 +127,6 @@ def start(command, given, output, notes=subprocess.PIPE, before=None):
     )
 
 
-def end(process, begun):
-    """The status of a process, its notes, and how long it took."""
-    try:
-        told = process.communicate(timeout=SECONDS)[1]
-    finally:
-        process.kill()
-    return process.returncode, told, time.monotonic() - begun
-
-
 def call(command, given=None, output=None, meanwhile=lambda process: None, **others):
     """How a call ends with this input and output, or else its own input in a file and a file for what it writes."""
     with tempfile.TemporaryFile() as own, tempfile.TemporaryFile() as written:
@@ -141,10 +134,12 @@ def call(command, given=None, output=None, meanwhile=lambda process: None, **oth
         own.seek(0)
         begun = time.monotonic()
         process = start(command, own if given is None else given, written if output is None else output, **others)
-        meanwhile(process)
-        status, told, seconds = end(process, begun)
+        with killed_if_late(process):
+            meanwhile(process)
+            told = process.communicate()[1]
+        seconds = time.monotonic() - begun
         written.seek(0)
-        return Ended(status, written.read(), told, seconds)
+        return Ended(process.returncode, written.read(), told, seconds)
 
 
 def call_with(path, flags, which, **others):
@@ -177,12 +172,7 @@ def read_by(most):
                 wrote.append(os.read(reader, most))
             os.close(reader)
 
-        if most == 0:
-            os.close(reader)
-            ended = call(command, output=writer, meanwhile=lambda _process: os.close(writer))
-        else:
-            ended = call(command, output=writer, meanwhile=meanwhile)
-        return ended._replace(wrote=b"".join(wrote))
+        return call(command, output=writer, meanwhile=meanwhile)._replace(wrote=b"".join(wrote))
 
     return perform
 
@@ -235,11 +225,12 @@ def told_while_it_waits(command):
 
     def meanwhile(process):
         os.close(reader)
-        with open(writer, "wb", buffering=0) as pipe:
+        # (where it has ended before, its status says so)
+        with contextlib.suppress(BrokenPipeError), open(writer, "wb", buffering=0) as pipe:
             pipe.write(halves_of(command.given)[0])
             time.sleep(0.1)
             process.terminate()
-            process.wait(SECONDS)
+            process.wait()
 
     return call(command, given=reader, meanwhile=meanwhile)
 
@@ -249,19 +240,18 @@ def without_output(command):
     yield Try(command, "the output is closed", calls(before=close(1)), [5])
     yield Try(command, "the output and the notes are closed", calls(notes=None, before=close(1, 2)), [5])
     yield Try(command, "the output is full", call_with("/dev/full", os.O_WRONLY, "output"), [5])
-    for most in (0, 1, 5_000, 70_000) if len(command.printed) > MOST_OF_A_PIPE else (0,):
+    yield Try(command, "the output's reader has gone", calls(before=without_a_reader(1)), [5])
+    for most in (1, 5_000, 70_000) if len(command.printed) > MOST_OF_A_PIPE else ():
         yield Try(command, f"the output's reader goes after {most} bytes", read_by(most), [5])
-
-
-def without_notes(command):
-    """A good end needs no notes; and a bad one has its status without them."""
-    bad = command._replace(name=f"{command.name} of no file", words=[NAME, b"check", b"/no/such/file"], printed=b"")
-    for one, statuses in ((command, [0]), (bad, [9])):
-        yield Try(one, "the notes are closed", calls(notes=None, before=close(2)), statuses)
-        yield Try(one, "the notes are full", call_with("/dev/full", os.O_WRONLY, "notes"), statuses)
-        yield Try(one, "the notes' reader has gone", calls(notes=None, before=without_a_reader(2)), statuses)
     statuses = [4, 5] if command.reads else [5]
     yield Try(command, "nothing is open", calls(notes=None, before=close(0, 1, 2)), statuses)
+
+
+def without_notes(command, status=0):
+    """A good end needs no notes; and a bad one has its status without them."""
+    yield Try(command, "the notes are closed", calls(notes=None, before=close(2)), [status])
+    yield Try(command, "the notes are full", call_with("/dev/full", os.O_WRONLY, "notes"), [status])
+    yield Try(command, "the notes' reader has gone", calls(notes=None, before=without_a_reader(2)), [status])
 
 
 def odd_inputs(command, few):
@@ -315,12 +305,9 @@ def without_end(folder):
         yield Try(of_check, "the file is no plan", call, [9 if name in NO_FILES else 3], told)
 
     def from_a_pipe(command):
-        feeder = threading.Thread(target=lambda: [time.sleep(0.05), fifo.write_bytes(HEX)])
-        feeder.start()
-        try:
-            return call(command)
-        finally:
-            feeder.join()
+        # (nobody waits for the thread: where the program never opens the file, it has no end)
+        threading.Thread(target=lambda: [time.sleep(0.05), fifo.write_bytes(HEX)], daemon=True).start()
+        return call(command)
 
     of_check = Command("check", [NAME, b"check", fifo], b"", PLAN_OF_HEX, False)
     yield Try(of_check, "the file is a pipe that waits", from_a_pipe, [0])
@@ -354,6 +341,21 @@ def commands(folder, lines, reads):
     ]
 
 
+def bad_commands(folder):
+    """A call of each command that ends badly, and its status."""
+    no_file, of_unhex = b"/no/such/file", Path(folder, "unhex.toml")
+    of_unhex.write_bytes(UNHEX)
+    ends = [
+        ("run with a word too many", [b"run", no_file, no_file], b"", 2),
+        ("run of no file", [b"run", no_file], b"", 9),
+        ("run with workers of what is no hexadecimal text", [b"run", of_unhex], b"line\n", 1),
+        ("script of a bad line", [b"script"], b"!\n", 8),
+        ("check of no file", [b"check", no_file], b"", 9),
+        ("gen of no file", [b"gen", b"6", b"1", no_file], b"", 9),
+    ]
+    return [(Command(name, [NAME, *words], given, b"", bool(given)), status) for name, words, given, status in ends]
+
+
 def tries(folder):
     each, of_few = commands(folder, LINES, READS), commands(folder, FEW, FEW)
     least = least_memory(of_few[4])
@@ -362,6 +364,8 @@ def tries(folder):
             yield from kind(command)
         yield from odd_inputs(command, few)
         yield from little_memory(command, least)
+    for bad, status in bad_commands(folder):
+        yield from without_notes(bad, status)
     # one that is long enough to be killed in its middle
     long = each[5]._replace(name="gen of many", words=[NAME, b"gen", b"4000000000", b"1", each[5].words[-1]])
     yield from (one._replace(statuses=[-signal.SIGTERM]) for one in told_to_end(long))

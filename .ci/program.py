@@ -1,10 +1,12 @@
 """Calls of the program that is built: what it reads, what it prints, and how it ends."""
+import contextlib
 import os
 import pathlib
 import socket
 import subprocess
 import tempfile
 import threading
+import time
 from typing import NamedTuple
 
 ROOT = pathlib.Path(__file__).resolve().parent.parent
@@ -63,6 +65,21 @@ class Ended(NamedTuple):
             for part, found, right in parts
             if found != right
         )
+
+
+@contextlib.contextmanager
+def killed_if_late(process):
+    """Kills a process that hasn't ended in so many seconds, so that nothing waits for it any longer, and then says so. At the
+    end it is killed in any case."""
+    late, begun = threading.Timer(SECONDS, process.kill), time.monotonic()
+    late.start()
+    try:
+        yield
+    finally:
+        late.cancel()
+        process.kill()
+        if time.monotonic() - begun >= SECONDS:
+            raise subprocess.TimeoutExpired(process.args, SECONDS)
 
 
 def ended(words, given, folder, limit=None):

@@ -7,7 +7,7 @@ import tempfile
 from pathlib import Path
 
 from cases import Case
-from program import NAME, PROGRAM, SECONDS, Wanted, call
+from program import NAME, PROGRAM, Wanted, call, killed_if_late
 
 MOST_WORKERS = 8
 TIMES = 100
@@ -79,13 +79,11 @@ class Limited:
             for _ in range(PIECES):
                 end.send(PIECE)
             with self.start(words, other, started) as process:
-                try:
+                with killed_if_late(process):
                     first = process.stdout.read(1)
                     count = len(os.listdir(f"/proc/{process.pid}/task")) - 1
                     end.close()
-                    rest, told = process.communicate(timeout=SECONDS)
-                finally:
-                    process.kill()
+                    rest, told = process.communicate()
         ended = process.returncode, first + rest, told
         if ended != (0, PIECES * PIECE, b""):
             return f"{started} threads: the run ends with {ended}"
@@ -117,6 +115,8 @@ def worker_case(name, differs, *numbers):
 
 
 def worker_cases():
+    if os.geteuid() != 0:
+        print("examples: the user isn't root, so of runs with a limit of threads only those are tried in which none can be started")
     return [
         worker_case("threads that can't be started", refused_threads, *range(MOST_WORKERS + 1)),
         *(worker_case(f"{n} workers a hundred times", again_and_again, n) for n in range(MOST_WORKERS + 1)),
