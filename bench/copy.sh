@@ -1,5 +1,5 @@
 #!/bin/sh
-# Copies a 256 MiB file by `./streams run`, by `dd` with blocks of the same 4,096 bytes, by `cat` and, where node is there, through
+# Copies a 256 MiB file by `./streams run`, by `dd` with blocks of 4,096 bytes, by `cat` and, where node is there, through
 # Node's own Web Streams, in one run; they take turns, five times each. Prints each one's median and best, its rate by the median, its
 # peak memory, and how many times Node's rate `./streams run` has. Words: the file's MiB, and another `streams` to be measured beside
 # this one.

@@ -2,18 +2,18 @@
 # run, and `show` tells what a name had in all of them.
 
 # Runs the words behind the name, with the output in `$work/NAME`, and notes the milliseconds by the wall clock, those of processor
-# time, and the peak memory. Of processor time `/usr/bin/time` tells hundredths, too few for a short run, and bash thousandths.
+# time, and the peak memory. Of both times `/usr/bin/time` tells hundredths, too few for a short run, and bash thousandths.
 once() {
     name=$1
     shift
     rm -f "$work/$name"
-    start=$(date +%s%N)
     # shellcheck disable=SC2016
-    bash -c 'TIMEFORMAT="%3U %3S"; { time "$@" 2>&3; } 3>&2 2>"$0"' "$work/processor" \
-        /usr/bin/time -f %M -o "$work/time" "$@" <"$work/in" >"$work/$name"
-    echo "$((($(date +%s%N) - start) / 1000000))" >>"$work/$name.ms"
-    awk '{ printf "%d\n", ($1 + $2) * 1000 }' "$work/processor" >>"$work/$name.cpu"
-    cat "$work/time" >>"$work/$name.kib"
+    bash -c 'TIMEFORMAT="%3R %3U %3S"; { time "$@" 2>&3; } 3>&2 2>"$0"' "$work/times" \
+        /usr/bin/time -f %M -o "$work/memory" "$@" <"$work/in" >"$work/$name"
+    # seconds with three digits behind a point, or a comma by some locales: without it they are milliseconds
+    awk '{ gsub("[.,]", ""); print $1 + 0 }' "$work/times" >>"$work/$name.ms"
+    awk '{ gsub("[.,]", ""); print $2 + $3 }' "$work/times" >>"$work/$name.cpu"
+    cat "$work/memory" >>"$work/$name.kib"
 }
 
 # So many MiB of text in lines of about 80 bytes.

@@ -1,10 +1,10 @@
 #!/bin/sh
 # Runs four pipelines over text in lines of about 80 bytes by `./streams run FILE`, beside the usual tool where there is one and,
-# where node is there, beside the same stages written for Node's own Web Streams (reads of 4,096 bytes), in one run: `lines` and
-# `number`, `hex`, `mask`, and four transform streams in a row. They take turns, five times each, and three times as often where a
-# run is short. Prints each one's median and best, its rate and the chunks that pass its stages in a second by the median, its peak
-# memory, and how many times Node's rate `./streams run` has: by the medians, by the best, and by the medians of the processor time.
-# Each output is compared with Node's.
+# where node is there, beside the same stages written for Node's own Web Streams, whose source reads 4,096 bytes at once, in one
+# run: `lines` and `number`, `hex`, `mask`, and four transform streams in a row. They take turns, five times each, and three times
+# as often where a run is short. Prints each one's median and best, its rate and the chunks that pass its stages in a second by the
+# median, its peak memory, and how many times Node's rate `./streams run` has: by the medians, by the best, and by the medians of
+# the processor time. Each output is compared with Node's.
 # Words: the input's MiB, and how many turns.
 set -eu
 root=$(CDPATH='' cd -- "$(dirname -- "$0")/.." && pwd)
@@ -36,6 +36,8 @@ run() {
         shift
     done
     [ $# -eq 0 ] || shift
+    # a tool that isn't there has no row
+    if [ $# -gt 0 ] && ! command -v "$1" >/dev/null 2>&1; then shift $#; fi
     # each stage is a word
     # shellcheck disable=SC2086
     plan 0 $stages >"$work/plan.toml"
@@ -44,15 +46,17 @@ run() {
     while [ "$left" -gt 0 ]; do
         once streams "$program" run "$work/plan.toml"
         if [ $# -gt 0 ]; then once "$1" "$@"; fi
-        # shellcheck disable=SC2086
-        if [ -n "$has_node" ]; then once node node "$root/bench/plans.mjs" $stages; fi
+        if [ -n "$has_node" ]; then
+            # shellcheck disable=SC2086
+            once node node "$root/bench/plans.mjs" $stages
+            cmp "$work/streams" "$work/node" || { echo 'the outputs differ' >&2; exit 1; }
+        fi
         left=$((left - 1))
     done
     show streams
     if [ $# -gt 0 ]; then show "$1"; fi
     if [ -n "$has_node" ]; then
         show node
-        cmp "$work/streams" "$work/node" || { echo 'the outputs differ' >&2; exit 1; }
         echo "  streams has $(ratio "$(median "$work/streams.ms")" "$(median "$work/node.ms")") times node's rate," \
             "best by best $(ratio "$(least "$work/streams.ms")" "$(least "$work/node.ms")")," \
             "by processor time $(ratio "$(median "$work/streams.cpu")" "$(median "$work/node.cpu")")"

@@ -4,15 +4,17 @@
 Each is told with the processor seconds of the best of three calls, and by how much they grow from the shortest to the
 longest: 16 times as long a text may take 20 times as long by n log n. Words name some of the texts. Rings of pipes are
 measured by some lines, since each line has the 100,000 jobs that a line may have at most; and a chunk that is printed
-for each read by short scripts, since what is printed grows as the square.
+for each read by short scripts, since what is printed grows as the square. Told is also the most memory of the longest.
 
-The exit status is 1 where one grows faster. The program is the one that STREAMS of the environment names, or else that
-which the gate built."""
+The exit status is 1 where one grows faster, and where one doesn't end as it is to: each script with 0, and each pipeline
+file refused by its number. The program is the one that STREAMS of the environment names, or else that which the gate
+built."""
 import os
 import subprocess
 import sys
 import tempfile
 from pathlib import Path
+from typing import NamedTuple
 
 ROOT = Path(__file__).resolve().parent.parent
 PROGRAM = os.environ.get("STREAMS") or ROOT / "crates" / "streams" / "out" / "streams"
@@ -23,6 +25,7 @@ TURNS = 3
 MOST_GROWTH = 25
 # What takes less isn't told apart from how long a process takes to begin.
 LEAST_SECONDS = 0.05
+ENDS_FINE = 0, b""
 
 
 def again(first, line, length, last=""):
@@ -101,52 +104,78 @@ PLANS = {
     "tables in braces that are as deep as may be": lambda n: again("a=[", "{a=" * 79 + "1" + "}" * 79 + ",", n, "]\n"),
     "keys with 79 dots in braces": lambda n: again("a=[", "{" + "a." * 79 + "a=1},", n, "]\n"),
 }
+# All are refused by 10, since their version or a key is missing or unknown, but for these.
+OTHER_REFUSALS = {"stages": 1}
 
 
-def seconds(words, given):
-    """The processor seconds of the best of some calls, and the most memory of one, in MiB."""
-    found = []
+class Measured(NamedTuple):
+    """The processor seconds of the best of some calls, the most memory of one, in MiB, and the status and the text on
+    standard error with which they ended."""
+
+    seconds: float
+    mebibytes: int
+    ends: set
+
+
+def measured(words, given):
+    seconds, mebibytes, ends = [], [], set()
     for _ in range(TURNS):
         given.seek(0)
-        process = subprocess.Popen(words, stdin=given, stdout=subprocess.DEVNULL, stderr=subprocess.DEVNULL)
-        used = os.wait4(process.pid, 0)[2]
-        found.append((used.ru_utime + used.ru_stime, used.ru_maxrss // 1024))
-    return min(found)
+        process = subprocess.Popen(words, stdin=given, stdout=subprocess.DEVNULL, stderr=subprocess.PIPE)
+        with process.stderr:
+            told = process.stderr.read()
+        _, status, used = os.wait4(process.pid, 0)
+        seconds.append(used.ru_utime + used.ru_stime)
+        mebibytes.append(used.ru_maxrss // 1024)
+        ends.add((os.waitstatus_to_exitcode(status), told))
+    return Measured(min(seconds), max(mebibytes), ends)
 
 
 def of_text(text, command):
     with tempfile.NamedTemporaryFile() as file:
         file.write(text.encode())
         file.flush()
-        return seconds([PROGRAM, command, *([file.name] if command == "check" else [])], file)
+        return measured([PROGRAM, command, *([file.name] if command == "check" else [])], file)
 
 
 def told(name, lengths, found):
     """Prints a row, and tells whether it grows too fast."""
-    growth = found[-1][0] / max(found[0][0], 1e-3)
-    shown = " | ".join(f"{one:.3f} s" for one, _ in found)
-    print(f"| {name}, {lengths} | {shown} | {growth:.1f} | {found[-1][1]} MiB |", flush=True)
-    return growth > MOST_GROWTH and found[-1][0] > LEAST_SECONDS
+    growth = found[-1].seconds / max(found[0].seconds, 1e-3)
+    shown = " | ".join(f"{one.seconds:.3f} s" for one in found)
+    print(f"| {name}, {lengths} | {shown} | {growth:.1f} | {found[-1].mebibytes} MiB |", flush=True)
+    return growth > MOST_GROWTH and found[-1].seconds > LEAST_SECONDS
+
+
+def ends_otherwise(found, ends):
+    """Prints how the calls ended that didn't end so, and tells whether there are any."""
+    others = set().union(*(one.ends for one in found)) - {ends}
+    if others:
+        print(f"it is to end with {ends}, and ended with {others}", flush=True)
+    return bool(others)
 
 
 def main(words):
     def is_asked(name):
         return not words or any(word in name for word in words)
 
-    fast = []
+    wrong = []
     for command, texts in (("script", SCRIPTS), ("check", PLANS)):
         for name, make in texts.items():
             if is_asked(name):
                 found = [of_text(make(length), command) for length in LENGTHS]
-                fast.append(told(f"{command}: {name}", "64 KiB to 1 MiB", found))
+                refused = 3, b"plan refused %d\n" % OTHER_REFUSALS.get(name, 10)
+                wrong.append(told(f"{command}: {name}", "64 KiB to 1 MiB", found))
+                wrong.append(ends_otherwise(found, refused if command == "check" else ENDS_FINE))
     if is_asked("printed"):
         found = [of_text(printed_again(length), "script") for length in PRINTED]
         told("script: a chunk that is printed for each read", "32 to 128 KiB", found)
+        wrong.append(ends_otherwise(found, ENDS_FINE))
     for name, ring in RINGS.items():
         if is_asked(name):
             found = [of_text(ring + "step\n" * count, "script") for count in STEPS]
-            fast.append(told(f"script: {name}", "50 to 800 lines", found))
-    return 1 if any(fast) else 0
+            wrong.append(told(f"script: {name}", "50 to 800 lines", found))
+            wrong.append(ends_otherwise(found, ENDS_FINE))
+    return 1 if any(wrong) else 0
 
 
 if __name__ == "__main__":

@@ -1,10 +1,11 @@
 #!/bin/sh
 # Runs pipelines by `./streams run FILE` with none, one, two and four workers, beside the same stages written for Node's own Web
-# Streams in one thread, and in worker threads to which streams are transferred (reads of 4,096 bytes). The first one has chunks
-# that are dear and few: blocks of 65,536 bytes through four masks with keys of 64 bytes. The others have a chunk for each line
-# of text, and a quarter of the input. All take turns, five times each; Node with threads takes part in the first turn alone,
-# where its chunks are lines. Prints each one's median and best, its processor time and its rate by the median, its peak memory;
-# and how many times the rate without workers each has, and how many times Node's. Each output is compared with the others.
+# Streams, whose source reads 4,096 bytes at once, in one thread, and in worker threads to which streams are transferred. The
+# first one has chunks that are dear and few: blocks of 65,536 bytes through four masks with keys of 64 bytes. The others have a
+# chunk for each line of text, and a quarter of the input. All take turns, five times each; Node with threads takes part in the
+# first turn alone, where its chunks are lines. Prints each one's median and best, its processor time and its rate by the median,
+# its peak memory; and how many times the rate without workers each has, and how many times Node's. Each output is compared with
+# the others.
 # Words: the input's MiB, how many turns, and another `streams` in place of that which is built.
 set -eu
 root=$(CDPATH='' cd -- "$(dirname -- "$0")/.." && pwd)
