@@ -161,8 +161,6 @@ class Pages(unittest.TestCase):
 
     def test_the_picture_of_the_pages_is_that_of_its_trace(self):
         trace, plan, picture = (DOCS / f"trace.{suffix}" for suffix in ("txt", "toml", "svg"))
-        if not trace.exists():
-            self.skipTest("the pages have no trace yet")
         self.assertEqual(Picture(trace.read_text(), "--plan", str(plan)).text, picture.read_text())
 
 
