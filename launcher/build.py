@@ -48,19 +48,22 @@ def lock():
     except BlockingIOError:
         held.close()
         return None
+    # (the number of one that was killed)
+    held.truncate(0)
     return held
 
 
 @contextlib.contextmanager
 def room():
-    """A folder for the copy, which goes as the build ends; and before it one that a killed build of this checkout left. Where TMPDIR names none it is
-    in /var/tmp, since a build takes gigabytes."""
+    """A folder for the copy, which goes as the build ends; and before it what killed builds of this checkout left. Where TMPDIR names none it is in
+    /var/tmp, since a build takes gigabytes."""
     top = os.environ.get("TMPDIR") or ("/var/tmp" if os.access("/var/tmp", os.W_OK) else None)
     prefix = f"streams-build-{hashlib.sha256(os.fsencode(sources.ROOT)).hexdigest()[:12]}-"
     try:
         for left in pathlib.Path(top or tempfile.gettempdir()).glob(f"{prefix}*"):
-            shutil.rmtree(left, ignore_errors=True)
+            remove_unused(left)
         folder = tempfile.mkdtemp(prefix=prefix, dir=top)
+        used = in_use(folder)
     except OSError as error:
         raise exits.Stop(exits.NO_FOLDER, f"{top or 'the folder for temporary files'} can't be written: {error.strerror}; set TMPDIR to one that can") from None
     try:
@@ -70,6 +73,26 @@ def room():
         yield pathlib.Path(folder)
     finally:
         shutil.rmtree(folder, ignore_errors=True)
+        os.close(used)
+
+
+def in_use(folder):
+    """A handle that has the folder for this process. Where another one has it that fails."""
+    handle = os.open(os.path.join(folder, ".in-use"), os.O_RDWR | os.O_CREAT | os.O_NOFOLLOW, 0o600)
+    try:
+        fcntl.flock(handle, fcntl.LOCK_EX | fcntl.LOCK_NB)
+    except OSError:
+        os.close(handle)
+        raise
+    return handle
+
+
+def remove_unused(folder):
+    """Removes the folder of a build that is no more."""
+    with contextlib.suppress(OSError):
+        used = in_use(folder)
+        shutil.rmtree(folder, ignore_errors=True)
+        os.close(used)
 
 
 def write(path, text):
@@ -136,9 +159,7 @@ def prove(folder):
         running.kill()
         running.wait()
     if status:
-        if sys.stderr is not None:
-            with contextlib.suppress(OSError):
-                print("".join(said), end="", file=sys.stderr)
+        exits.put("".join(said))
         raise exits.Stop(exits.NOT_PROVED, "a crate could not be proved, or the program not built: what rt said stands above")
 
 
@@ -155,7 +176,9 @@ def install(made, told, begun):
 
 def make():
     """Proves, builds and installs the program."""
-    begun = time.time()
+    # (by the clock of the file system: it was written just now)
+    begun = LOCK.stat().st_mtime
+    sources.look_again()
     with room() as folder:
         sources.copy_to(folder)
         # (of what is proved, and not of what may change beside it)
@@ -190,7 +213,7 @@ def build():
     try:
         with causes():
             forget()
-            LOCK.write_text(f"{os.getpid()}\n")
+            LOCK.write_text(number_line())
             tell(BEGINS)
             make()
             tell(DONE)
@@ -201,7 +224,12 @@ def build():
         raise
     finally:
         with contextlib.suppress(OSError):
-            os.truncate(LOCK, 0)
+            if LOCK.read_text() == number_line():
+                os.truncate(LOCK, 0)
+
+
+def number_line():
+    return f"{os.getpid()}\n"
 
 
 def forget():
@@ -216,7 +244,6 @@ def start():
     if held:
         with causes(), held, open(LOG, "w") as log:
             forget()
-            held.truncate(0)
             how = {"stdin": subprocess.DEVNULL, "stdout": log, "stderr": log, "start_new_session": True}
             try:
                 subprocess.Popen([sys.executable, "-B", __file__], pass_fds=[held.fileno()], **how)
@@ -243,10 +270,14 @@ def failure():
 
 def account():
     """How it stands with the build that was started, in a sentence."""
-    failed, far = failure(), how_far()
-    if failed:
-        return f"The proof ended without a program: {failed[1]}"
-    return "By now the program is proved and built" if far == DONE else f"The proof goes on ({far}; {LOG})"
+    held = lock()
+    if not held:
+        return f"The proof goes on ({how_far()}; {LOG})"
+    with held:
+        failed = failure()
+        if failed:
+            return f"The proof ended without a program: {failed[1]}"
+        return "By now the program is proved and built" if how_far() == DONE else f"The proof was ended before it was done ({LOG})"
 
 
 def follow():

@@ -1,5 +1,6 @@
 """How the launcher itself ends, by the numbers of sysexits.h, which the program has no use for."""
-import sys
+import contextlib
+import os
 
 # The program couldn't be proved or built.
 NOT_PROVED = 70
@@ -25,10 +26,14 @@ class Stop(Exception):
         self.status = status
 
 
+def put(text):
+    """Writes a text on standard error, where that can be written."""
+    left = memoryview(text.encode(errors="surrogateescape"))
+    # (not by sys.stderr, which would try what it couldn't write once more as Python ends, and have a status of its own for that)
+    with contextlib.suppress(OSError):
+        while left:
+            left = left[os.write(2, left) :]
+
+
 def say(line):
-    """Writes a line on standard error, where there is one."""
-    if sys.stderr is not None:
-        try:
-            print(f"streams: {line}", file=sys.stderr, flush=True)
-        except OSError:
-            pass
+    put(f"streams: {line}\n")

@@ -14,8 +14,8 @@ WRITE_FAULT = 5
 # What ends rt's account of a program that came to its end. What stands before it are the program's own notes.
 ENDED = re.compile(rb"^(?:interpreter: .*\n)?checked: ended status=(\d+)\n(?:.*\n)*run=ended status=\1 .*proved=no\n\Z", re.MULTILINE)
 WAITS = (
-    "the program isn't proved yet, and this waits for it, with its input kept: a first answer takes an input that is a file or a pipe, "
-    "of at most 64 MiB that end without a pause of 2 s, and a pipeline file that can be read twice"
+    "the program isn't proved yet, and this waits for it, with its input kept: a first answer wants an output that is open, "
+    "an input that is a file or a pipe, has at most 64 MiB and ends without a pause of 2 s, and a pipeline file that can be read twice"
 )
 UNPROVED = (
     "this answer is of a build that isn't proved yet: its accesses, sums and unwraps were checked as it ran, its contracts weren't. {}"

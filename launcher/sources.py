@@ -1,10 +1,10 @@
 """The crates that the program stands on: which they are, what they are made of, and whether the program was built of just that."""
+import contextlib
 import functools
 import hashlib
 import os
 import pathlib
 import shutil
-import time
 
 ROOT = pathlib.Path(__file__).resolve().parent.parent
 PROGRAM = "streams"
@@ -41,15 +41,21 @@ def needed():
     return found
 
 
+def look_again():
+    """Has crates.txt read anew."""
+    for told in (rows, libraries, needed):
+        told.cache_clear()
+
+
 def is_source(path, part):
-    """Whether a file is read as the program is built: what an editor leaves beside one isn't. `streams` asks the same of what is proved."""
+    """Whether a file is read as the program is built: what an editor leaves beside one isn't. `streams` asks the same."""
     return path.is_file() and not path.name.startswith(".") and (part in RUN or path.suffix in (".rt", ".antt"))
 
 
-def files(top=ROOT):
-    """The files that the program is built of, in the checkout or in a copy."""
+def files(parts, top=ROOT):
+    """The files of these parts of the crates, in the checkout or in a copy."""
     for crate in sorted(needed()):
-        for part in PROVED + RUN:
+        for part in parts:
             path = top / "crates" / crate / part
             if path.is_dir():
                 yield from sorted(it for it in path.rglob("*") if is_source(it, part))
@@ -60,7 +66,7 @@ def files(top=ROOT):
 def sum_of(top=ROOT):
     """A checksum of all that the program is built of."""
     told = hashlib.sha256("\n".join(rows()[crate] for crate in sorted(needed())).encode())
-    for path in [top / "HANDLES", *files(top)]:
+    for path in [top / "HANDLES", *files(PROVED, top)]:
         told.update(f"\n{path.relative_to(top)}\n".encode())
         told.update(path.read_bytes())
     return told.hexdigest()
@@ -73,21 +79,25 @@ def sums_of(program, of_sources):
 
 def is_built():
     """Whether the program is there and is the one that was built of these sources. A file that was only touched changes nothing."""
-    asked = time.time()
+    look_again()
+    try:
+        # (by the clock of the file system)
+        os.utime(SUM)
+        asked = SUM.stat().st_mtime
+    except OSError:
+        asked = None
     if not os.access(BUILT, os.X_OK) or not SUM.exists() or SUM.read_text() != sums_of(BUILT, sum_of()):
         return False
-    try:
-        # (what changes from here on is newer)
-        os.utime(BUILT, (asked, asked))
-    except OSError:
-        # It is asked again next time.
-        pass
+    if asked is not None:
+        # What changed since is newer. (Where that can't be set, it is asked again next time.)
+        with contextlib.suppress(OSError):
+            os.utime(BUILT, (asked, asked))
     return True
 
 
 def copy_to(room):
     """Copies what the proofs of these crates read: no must-fail edits, no tests, no other program."""
-    for path in files():
+    for path in files(PROVED + RUN):
         to = room / path.relative_to(ROOT)
         to.parent.mkdir(parents=True, exist_ok=True)
         shutil.copyfile(path, to)

@@ -134,11 +134,15 @@ class Launcher(unittest.TestCase):
         self.assertTrue(ran.stderr.endswith(b"\nwrite fault\n"))
 
     def test_a_file_that_the_program_does_not_read_is_left_where_it_was(self):
+        self.set("ci_seconds", "60")
         (self.folder / "in").write_bytes(b"some bytes")
         with open(self.folder / "in", "rb") as given:
-            for words, status in ((["run", "none.toml"], 9), (["run", "--trace"], 2), (["check", "none.toml"], 9)):
+            # (the stub takes `script` for no command)
+            for words, status in ((["script"], 2), (["run", "none.toml"], 9), (["run", "--trace"], 2), (["check", "none.toml"], 9)):
                 ran = subprocess.run([self.top / "streams", *words], stdin=given, capture_output=True, env=self.env, timeout=60)
                 self.assertEqual((ran.returncode, os.lseek(given.fileno(), 0, os.SEEK_CUR)), (status, 0), ran.stderr)
+        self.assertEqual(len(self.calls("try")), 4)
+        os.kill(int((self.top / "crates/streams/out/build.lock").read_text()), signal.SIGTERM)
 
     def test_a_pipeline_file_that_is_the_standard_input(self):
         (self.folder / "in").write_bytes(b"a plan\n")
@@ -276,15 +280,48 @@ class Launcher(unittest.TestCase):
         self.set("ci_seconds", "0")
         self.built()
 
-    def test_a_build_that_is_not_to_hear_of_a_hangup(self):
-        self.set("ci_seconds", "2")
-        asked = subprocess.Popen(
-            ["nohup", self.top / "streams", "run"], stdin=subprocess.DEVNULL, stdout=subprocess.PIPE, stderr=subprocess.PIPE, env={**self.env, "STREAMS_PROVED": "1"}
-        )
+    def test_a_build_that_is_ended_twice_leaves_nothing(self):
+        # It takes a second to remove its copy.
+        script, leaves = self.top / "launcher/build.py", "        yield pathlib.Path(folder)\n    finally:\n"
+        text = script.read_text()
+        self.assertEqual(text.count(leaves), 1)
+        script.write_text(text.replace(leaves, f"{leaves}        open({str(self.stub / 'leaves')!r}, 'w').close()\n        time.sleep(1)\n"))
+        self.set("ci_seconds", "60")
+        asked = subprocess.Popen([self.top / "streams", "run"], stdin=subprocess.DEVNULL, stdout=subprocess.PIPE, stderr=subprocess.PIPE, env={**self.env, "STREAMS_PROVED": "1"})
         self.until(lambda: self.calls("ci"), "rt is at work")
+        asked.send_signal(signal.SIGTERM)
+        self.until((self.stub / "leaves").exists, "it ends")
         asked.send_signal(signal.SIGHUP)
         _, said = asked.communicate(timeout=20)
-        self.assertEqual(asked.returncode, 0, said)
+        self.assertEqual(asked.returncode, 75, said)
+        self.assertNotIn(b"Traceback", said)
+        self.assertEqual(list(self.tmp.iterdir()), [])
+
+    def test_a_build_that_is_not_to_hear_of_a_signal(self):
+        self.set("ci_seconds", "2")
+        for number, ignored in ((signal.SIGHUP, "HUP"), (signal.SIGINT, "INT")):
+            before = len(self.calls("ci"))
+            (self.top / "crates/streams/out/streams").unlink(missing_ok=True)
+            asked = subprocess.Popen(
+                ["sh", "-c", f'trap "" {ignored}; exec "$0" run', self.top / "streams"],
+                stdin=subprocess.DEVNULL, stdout=subprocess.PIPE, stderr=subprocess.PIPE, env={**self.env, "STREAMS_PROVED": "1"},
+            )
+            self.until(lambda: len(self.calls("ci")) > before, "rt is at work")
+            asked.send_signal(number)
+            _, said = asked.communicate(timeout=20)
+            self.assertEqual(asked.returncode, 0, said)
+
+    def test_a_build_leaves_the_folder_of_another_one_that_lives(self):
+        # (the stub sleeps for a twentieth of that, and then asks again how long)
+        self.set("ci_seconds", "400")
+        asked = subprocess.Popen([self.top / "streams", "run"], stdin=subprocess.DEVNULL, stdout=subprocess.PIPE, stderr=subprocess.PIPE, env={**self.env, "STREAMS_PROVED": "1"})
+        self.until(lambda: self.calls("ci"), "rt is at work")
+        shutil.rmtree(self.top / "crates/streams/out")
+        self.set("ci_seconds", "0")
+        self.built()
+        self.assertEqual(len(list(self.tmp.iterdir())), 1)
+        asked.kill()
+        asked.communicate(timeout=20)
 
     def ended_behind_low(self):
         """What a build says that is ended once the crate low was proved."""
@@ -323,6 +360,7 @@ class Launcher(unittest.TestCase):
         self.set("ci_seconds", "0")
         self.built()
         self.assertEqual(list(self.tmp.iterdir()), [])
+        self.assertEqual((self.top / "crates/streams/out/build.lock").read_text(), "")
 
     def test_a_build_that_goes_on_by_itself_can_be_ended(self):
         self.set("ci_seconds", "60")
@@ -371,6 +409,10 @@ class Launcher(unittest.TestCase):
         self.set("ci_status", "1")
         ran = subprocess.run(["sh", "-c", 'exec "$0" run 2>&-', self.top / "streams"], input=b"x", capture_output=True, env={**self.env, "STREAMS_PROVED": "1"}, timeout=60)
         self.assertEqual((ran.returncode, ran.stdout, ran.stderr), (70, b"", b""))
+        with open("/dev/full", "wb") as full:
+            for env, status in (({**self.env, "STREAMS_PROVED": "1"}, 70), (self.env, 0)):
+                ran = subprocess.run([self.top / "streams", "run"], input=b"x", stdout=subprocess.PIPE, stderr=full, env=env, timeout=60)
+                self.assertEqual((ran.returncode, ran.stdout), (status, b"" if status else b"x"))
 
     # What is older than its sources, and what isn't.
 
@@ -383,6 +425,16 @@ class Launcher(unittest.TestCase):
             os.utime(path, (ahead, ahead))
         # (and where all is summed, since one was touched)
         os.utime(self.top / "crates/low/src/lib.rt", (ahead, ahead))
+        ran = self.run_streams("run", given=b"x")
+        self.assertEqual((ran.returncode, ran.stdout, ran.stderr), (0, b"x", b""))
+        self.assertEqual(len(self.calls("ci")), 1)
+
+    def test_what_an_editor_leaves_beside_a_program_of_the_gate(self):
+        self.built()
+        # (the gate builds the program without the launcher, which so has no sums)
+        (self.top / "crates/streams/out/sources.sum").unlink()
+        time.sleep(0.05)
+        (self.top / "crates/low/src/.lib.rt.swp").write_text("x")
         ran = self.run_streams("run", given=b"x")
         self.assertEqual((ran.returncode, ran.stdout, ran.stderr), (0, b"x", b""))
         self.assertEqual(len(self.calls("ci")), 1)
@@ -516,7 +568,10 @@ class Launcher(unittest.TestCase):
         import build
         import exits
 
-        with mock.patch("shutil.disk_usage", return_value=mock.Mock(free=100 << 20)), self.assertRaises(exits.Stop) as stopped, build.room():
+        full = mock.patch("shutil.disk_usage", return_value=mock.Mock(free=100 << 20))
+        # (not in the folder in which a build of this checkout may be under way)
+        here = mock.patch.dict(os.environ, {"TMPDIR": str(self.tmp)})
+        with full, here, self.assertRaises(exits.Stop) as stopped, build.room():
             pass
         self.assertEqual(stopped.exception.status, 74)
         self.assertRegex(str(stopped.exception), "100 MiB free.*make room, or set TMPDIR")
