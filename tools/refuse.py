@@ -8,7 +8,8 @@ program has to end as it does elsewhere or with the status that this refusal has
 to be a first part of what it writes elsewhere, with 0 all of it. The end of the output is a write here: the system has
 no other.
 
-It prints a line for each run that doesn't, and how many places were tried. It needs a C compiler (CC, or cc). The
+It prints a line for each run that doesn't, and how many places were tried; and a line for each kind of call of which
+none was refused, as it is with a program into which no library is loaded. It needs a C compiler (CC, or cc). The
 program is the one that STREAMS of the environment names, or else that which was built last."""
 import os
 import subprocess
@@ -121,7 +122,8 @@ def library(folder):
 
 
 def run(job, made, refusal, number):
-    """How a run ends of which the call of this number is refused, and the files of the calls that were."""
+    """How a run ends of which the call of this number is refused, or None where it doesn't, and the files of the calls
+    that were."""
     reader, writer = os.pipe()
     environment = {
         "LD_PRELOAD": str(made),
@@ -140,6 +142,8 @@ def run(job, made, refusal, number):
                 pass_fds=[writer],
                 timeout=SECONDS,
             )
+        except subprocess.TimeoutExpired:
+            done = None
         finally:
             os.close(writer)
         return done, refused.read()
@@ -147,6 +151,8 @@ def run(job, made, refusal, number):
 
 def fault(job, refusal, done, refused):
     """What is wrong with a run, or None."""
+    if not done:
+        return f"it doesn't end in {SECONDS} s"
     allowed = refusal.statuses(refused[0]) if refused else {0}
     status, wrote, told = done.returncode, done.stdout, done.stderr
     if status not in allowed:
@@ -167,7 +173,8 @@ def tried(job, made, refusal):
         wrong = fault(job, refusal, done, refused)
         if wrong:
             faults.append(f"{job.name}: {refusal.name()}: number {number}: {wrong}")
-        if not refused:
+        # (one that doesn't end would take as long at each further number)
+        if not refused or not done:
             return number - 1, statuses, faults
         statuses[done.returncode] += 1
 
@@ -176,20 +183,23 @@ def main():
     if not os.access(PROGRAM, os.X_OK):
         print(f"refuse: {PROGRAM} isn't built")
         return 1
-    places, runs, faults = 0, Counter(), []
+    places, runs, faults = Counter(), Counter(), []
     with tempfile.TemporaryDirectory() as folder:
         made = library(folder)
         for job in jobs():
             for refusal in REFUSALS:
                 count, statuses, wrong = tried(job, made, refusal)
-                places, runs, faults = places + count, runs + statuses, faults + wrong
+                places[refusal.name()] += count
+                runs, faults = runs + statuses, faults + wrong
                 if count:
                     ends = ", ".join(f"{times} with {status}" for status, times in sorted(statuses.items()))
                     print(f"{job.name}: {refusal.name()}: {count} places; {ends}", flush=True)
                 print(*wrong, sep="\n", end="\n" if wrong else "", flush=True)
+    missing = [name for name, count in places.items() if not count]
+    print(*(f"{name}: none was refused in any run" for name in missing), sep="\n", end="\n" if missing else "")
     ends = ", ".join(f"{times} with {status}" for status, times in sorted(runs.items()))
-    print(f"refuse: {places} places; {ends}; {len(faults)} runs were wrong")
-    return 1 if faults else 0
+    print(f"refuse: {places.total()} places; {ends}; {len(faults)} runs were wrong")
+    return 1 if faults or missing else 0
 
 
 if __name__ == "__main__":

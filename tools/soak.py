@@ -5,7 +5,7 @@ worker and with what oracle/ says of them: python3 tools/soak.py
 Each pipeline is run once without workers and several times with them. A run that ends with 0 has to write all that the
 stages make, as that without workers does; where the plan and its input have one cause to end badly both tell that one;
 where they have several, which of them is told may differ, and then the output is a first part of what the stages make.
-Where the program knows `run --trace`, half of the runs are traced, and each trace has to keep the rules of edges.
+Half of the runs with workers are traced, and each trace has to keep the rules of edges.
 
 The last line says how many pipelines and runs there were. The exit status is 1 where one differed; each that did is
 printed with its number, by which --only runs it again."""
@@ -141,7 +141,7 @@ def soaked(options, index, folder):
     wrong, alone = run(paths[1], False)
     differs, statuses = [f"without workers: {wrong}"] if wrong else [], Counter()
     for _ in range(options.times):
-        wrong, ended = run(paths[0], options.traces and random.random() < 0.5)
+        wrong, ended = run(paths[0], random.random() < 0.5)
         statuses[ended[0]] += 1
         if not wrong and not pipeline.may_differ() and (ended[0], ended[2]) != (alone[0], alone[2]):
             wrong = f"status {ended[0]} with {ended[2]!r}; without workers {alone[0]} with {alone[2]!r}"
@@ -160,13 +160,6 @@ def told(options, index, pipeline, wrong):
         f"again: python3 tools/soak.py --seed {options.seed} --only {index}\n"
         f"--- file\n{pipeline.file.decode()}--- input, {len(text)} bytes\n{shown}\n"
     )
-
-
-def knows_traces(program, folder):
-    """Whether the program has the words `run --trace FILE`."""
-    path = folder / "traced.toml"
-    path.write_text("version = 1\nworkers = 1\n[[stage]]\nkind = \"hex\"\n")
-    return outcome_of([str(program), "run", "--trace", str(path)], Random(0), b"")[0] != 2
 
 
 def arguments():
@@ -188,14 +181,12 @@ def main():
         return 1
     indices = range(options.count) if options.only is None else [options.only]
     with tempfile.TemporaryDirectory() as folder, ThreadPoolExecutor(options.beside) as pool:
-        options.traces = knows_traces(options.program, Path(folder))
         bad, runs, statuses = 0, 0, Counter()
         for one in pool.map(lambda index: soaked(options, index, Path(folder)), indices):
             print(*one.differs, sep="\n", end="", flush=True)
             bad, runs, statuses = bad + bool(one.differs), runs + one.runs, statuses + one.statuses
     shown = ", ".join(f"{count} with {status}" for status, count in sorted(statuses.items()))
-    traced = "half of them traced" if options.traces else "none traced, since the program has no such words"
-    print(f"{len(indices)} pipelines, {bad} differ; {runs} runs, of those with workers ({traced}) {shown}")
+    print(f"{len(indices)} pipelines, {bad} differ; {runs} runs, of those with workers (half of them traced) {shown}")
     return 1 if bad else 0
 
 
