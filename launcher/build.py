@@ -202,8 +202,12 @@ def end(*_):
     """Ends the build where its process is told to end. That it is told again doesn't keep it from leaving nothing."""
     for it in ENDS:
         signal.signal(it, signal.SIG_IGN)
-    left = "what was proved is kept, and the next one goes on from there" if kit.keeps() else "this kit's rt ci keeps nothing, so the next one begins anew"
-    raise exits.Stop(exits.ENDED, f"the build was ended before it was done: {left}")
+    raise exits.Stop(exits.ENDED, "the build was ended before it was done")
+
+
+def what_is_left():
+    """What is left of a build that was ended. It is asked of rt, once the one that proves has gone."""
+    return "what was proved is kept, and the next one goes on from there" if kit.keeps() else "this kit's rt ci keeps nothing, so the next one begins anew"
 
 
 def build():
@@ -217,11 +221,12 @@ def build():
             tell(BEGINS)
             make()
             tell(DONE)
-    except exits.Stop as why:
+    except exits.Stop as stop:
+        why = exits.Stop(exits.ENDED, f"{stop}: {what_is_left()}") if stop.status == exits.ENDED else stop
         # (a full disk has no room for that either)
         with contextlib.suppress(OSError):
             write(FAILED, f"{why.status} {why}")
-        raise
+        raise why from None
     finally:
         with contextlib.suppress(OSError):
             if LOCK.read_text() == number_line():
