@@ -7,9 +7,9 @@ set -eu
 root=$(CDPATH='' cd -- "$(dirname -- "$0")/.." && pwd)
 work=$(mktemp -d)
 trap 'rm -rf "$work"' EXIT
+. "$root/bench/measure.sh"
 mebibytes=${1:-256}
 head -c "$((mebibytes * 1048576))" /dev/urandom >"$work/in"
-. "$root/bench/measure.sh"
 program=$(built)
 if command -v node >/dev/null 2>&1; then has_node=yes; else has_node=; fi
 

@@ -1,6 +1,16 @@
 # For the benches that read `$work/in`. What is compared takes turns, since a machine may be slower for a while: `once` measures one
 # run, and `show` tells what a name had in all of them.
 
+# Words are numbers, or the path of a program. Of any other one the bench says what it does, and does nothing.
+for word in "$@"; do
+    case $word in
+    -*)
+        sed -n '2,/^set /s/^# \{0,1\}//p' "$0" >&2
+        exit 2
+        ;;
+    esac
+done
+
 # Runs the words behind the name, with the output in `$work/NAME`, and notes the milliseconds by the wall clock, those of processor
 # time, and the peak memory. Of both times `/usr/bin/time` tells hundredths, too few for a short run, and bash thousandths.
 once() {
