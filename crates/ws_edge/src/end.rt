@@ -30,7 +30,6 @@ pub struct Posting {
 ///
 /// It has a place for a last error from the beginning, so that a node that finds no memory can still tell its
 /// neighbour. A message has room for its mark from when it waits.
-#[derive(Drop)]
 pub struct End {
     from: Receiver,
     to: Sender,
@@ -44,6 +43,20 @@ pub struct End {
 
     /// The marks of what was posted, where they are kept.
     marks: Option<Vec<Mark>>,
+}
+
+// Called wherever an end may be dropped; a derived drop would be written out there, field by field.
+impl Drop for End {
+    fn drop(self) {
+        let End {
+            from: _,
+            to: _,
+            waiting: _,
+            count: _,
+            ended: _,
+            marks: _,
+        } = self;
+    }
 }
 
 impl Model for End {

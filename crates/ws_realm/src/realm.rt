@@ -49,12 +49,22 @@ pub struct NoRoom {
 /// A realm of readable, writable and transform streams, with their readers and writers, the BYOB requests of byte
 /// streams, its tees, its message ports, its pipes and signals, its promises, its one job queue, and what its host
 /// hasn't heard of yet. It is seen as its slots, and whether all memory was taken that the next call or job can need.
-#[derive(Drop)]
 pub struct Realm {
     tables: Tables,
     prepared: bool,
     /// For how many of the jobs that each chunk meets places were found.
     places: u32,
+}
+
+// A derived drop is written out, field by field, at each place where a realm may be dropped. This one is called there.
+impl Drop for Realm {
+    fn drop(self) {
+        let Realm {
+            tables: _,
+            prepared: _,
+            places: _,
+        } = self;
+    }
 }
 
 impl Model for Realm {
