@@ -2,7 +2,9 @@
 """Measures what a run of the gate takes, by crate, and writes the table of docs/GATE.md. Nothing else may prove or compile meanwhile.
 
     .ci/times.py run SAMPLES COMMAND..     runs the command, as `rt ci` from nothing, and keeps the processor time of each process of the kit in the file SAMPLES
-    .ci/times.py table SAMPLES..           writes the table of what these runs took together"""
+    .ci/times.py table SAMPLES..           writes the table of what these runs took together
+    .ci/times.py functions CRATE           tells of which functions the proof takes longest, after `rt check --jobs 1` in a crate whose out/incremental was removed before"""
+import collections
 import json
 import math
 import os
@@ -18,6 +20,8 @@ PAGE = ROOT / "docs" / "GATE.md"
 TOOLS = ("rattle", "rattle-x64", "rattle-link", "rattle-test", "clang", "clang-14", "ld.lld")
 ROW = re.compile(r"^\| (?!crate )[a-z]\w* \|.*\n", re.MULTILINE)
 PROVED, ENDED = re.compile(r"logic=proved functions=(\d+)"), re.compile(r"rt: (\w+) proved$")
+# What the kit keeps of a function: its path, and which part of its proof it is.
+PART = re.compile(r"(?:proofs|specs)\.(?:contracts\.)?(.+)\.(Symbol|Code|Kinds|Layout|Lts|Reads|Named|Tie|Proof|Answers|Invariants)\b.*")
 TICKS = os.sysconf("SC_CLK_TCK")
 
 
@@ -98,11 +102,29 @@ def table(files):
     return 0
 
 
+def functions(crate):
+    """Tells how long the parts of each function's proof took: with one job each file is written when its part ends, so that took the time since the one before."""
+    prefix, suffix = f"Rattle-{crate}-", ".oantt"
+    files = sorted((path.stat().st_mtime, path.name) for path in (ROOT / "crates" / crate / "out" / "incremental").rglob(f"*{suffix}"))
+    if not files:
+        print(f"crates/{crate}/out/incremental has nothing: run rt check --jobs 1 there", file=sys.stderr)
+        return 1
+    took = collections.defaultdict(collections.Counter)
+    for (before, _), (ended, name) in zip(files, files[1:]):
+        part = PART.fullmatch(name[len(prefix) : -len(suffix)]) if name.startswith(prefix) else None
+        took[part[1] if part else "the rest"][part[2] if part else ""] += ended - before
+    for function, parts in sorted(took.items(), key=lambda it: -it[1].total())[:20]:
+        print(f"{parts.total():6.1f} s  {function}  " + ", ".join(f"{part} {seconds:.1f}" for part, seconds in parts.most_common(3) if part))
+    return 0
+
+
 def main():
     if sys.argv[1:2] == ["run"] and len(sys.argv) > 3:
         return run(sys.argv[2], sys.argv[3:])
     if sys.argv[1:2] == ["table"] and len(sys.argv) > 2:
         return table(sys.argv[2:])
+    if sys.argv[1:2] == ["functions"] and len(sys.argv) == 3:
+        return functions(sys.argv[2])
     print(__doc__, file=sys.stderr)
     return 2
 
