@@ -578,4 +578,8 @@ class Launcher(unittest.TestCase):
 
 
 if __name__ == "__main__":
+    # Who is started in the background or by nohup ignores these, and so would all that is started here, which tests send them to. One that is caught is the child's again.
+    for number in (signal.SIGINT, signal.SIGHUP):
+        if signal.getsignal(number) is signal.SIG_IGN:
+            signal.signal(number, lambda *_: None)
     unittest.main()
