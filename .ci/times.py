@@ -102,7 +102,7 @@ def table(files):
     return 0
 
 
-def functions(crate):
+def slowest(crate):
     """Tells how long the parts of each function's proof took: with one job each file is written when its part ends, so that took the time since the one before."""
     prefix, suffix = f"Rattle-{crate}-", ".oantt"
     files = sorted((path.stat().st_mtime, path.name) for path in (ROOT / "crates" / crate / "out" / "incremental").rglob(f"*{suffix}"))
@@ -124,7 +124,7 @@ def main():
     if sys.argv[1:2] == ["table"] and len(sys.argv) > 2:
         return table(sys.argv[2:])
     if sys.argv[1:2] == ["functions"] and len(sys.argv) == 3:
-        return functions(sys.argv[2])
+        return slowest(sys.argv[2])
     print(__doc__, file=sys.stderr)
     return 2
 
