@@ -72,6 +72,8 @@ impl Tables {
         ensures slots { IfOk result (λ tables. slots_of tables ≡ empty) }
         ensures resting { IfOk result (λ tables. IsResting tables) }
     {
+        let promises = Promises::make(alloc)?;
+        let caused = Agenda::make(alloc)?;
         Ok(Tables {
             alloc,
             streams: Vec::new(alloc),
@@ -81,10 +83,10 @@ impl Tables {
             pipes: Vec::new(alloc),
             signals: Vec::new(alloc),
             locks: Vec::new(alloc),
-            promises: Promises::make(alloc)?,
+            promises,
             hosts: Hosts::new(alloc),
             byob_requests: Vec::new(alloc),
-            caused: Agenda::make(alloc)?,
+            caused,
             others: Vec::new(alloc),
             under_way: Vec::new(alloc),
             waiting: 0,
