@@ -17,7 +17,7 @@ use Rattle.ws_room_laws.proofs.Turns.{performed_none}
 use Rattle.ws_tables.specs.View.{slots_of}
 use Rattle.ws_tables.specs.Room.{AreEnough, CanTurn, HasRoomForAll, IsKept, IsReady, IsResting}
 use Rattle.ws_direct.specs.Directly.{IsReadyFor, PerformsDirectly}
-use Rattle.ws_effects.specs.Performing.{PerformsAll}
+use Rattle.ws_performing.specs.Performing.{PerformsAll}
 use Rattle.ws_tables.specs.declared.tables.Tables.{Tables}
 use Rattle.ws_tables.proofs.Places.{kept_same}
 use Rattle.ws_begin.specs.Begin.{IsBegun}

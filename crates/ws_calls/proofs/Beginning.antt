@@ -24,9 +24,9 @@ use Rattle.ws_begin.specs.Begin.{IsBegun, IsEmpty, Answers, Begins, MakesNone, M
 use Rattle.ws_tables.specs.declared.tables.Stream.{Stream as StreamRecord}
 use Rattle.ws_tables.specs.declared.tables.Stream.TheVariants.{Readable, Bytes, Writable}
 use Rattle.ws_tables.specs.declared.tables.Tables.{Tables}
-use Rattle.ws_effects.proofs.Fits.{Takes, takes, within-less, queued-within, all-at-one, members-at}
-use Rattle.ws_effects.proofs.Keeps.{later-is, one-tee, no-tee, more-sources, tees-turns, tees-promises, tees-jobs, tees-events, tees-hosts, tees-requests}
-use Rattle.ws_effects.proofs.Turns.{rooms-less, no-rooms, copied-none}
+use Rattle.ws_performing.proofs.Fits.{Takes, takes, within-less, queued-within, all-at-one, members-at}
+use Rattle.ws_performing.proofs.Keeps.{later-is, one-tee, no-tee, more-sources, tees-turns, tees-promises, tees-jobs, tees-events, tees-hosts, tees-requests}
+use Rattle.ws_performing.proofs.Turns.{rooms-less, no-rooms, copied-none}
 use Rattle.ws_calls.proofs.Made.{Sourced, HandsFirst, added, counted-makes, job-counted, begin-few, job-few, begin-sourced, job-sourced, begin-hands, job-hands}
 
 -- what has begun leaves the places as they are, and makes one stream, or two, or one signal, or none of these

@@ -21,9 +21,9 @@ use Rattle.ws_tables.specs.View.{slots_of, tee_of}
 use Rattle.ws_tables.specs.Room.{AreCopied, AreEnough, CanTurn, EachHasMembers, EachHasPlaces, HasCopies, HasRoomForAll, IsKept, KeepsRecords, Places, places_of, room_of, later}
 use Rattle.ws_tables.specs.declared.tables.Tables.{Tables}
 use Rattle.ws_tables.proofs.Loops.{empty}
-use Rattle.ws_effects.proofs.Fits.{Takes, within-less}
-use Rattle.ws_effects.proofs.Keeps.{later-is}
-use Rattle.ws_effects.proofs.Turns.{rooms-less}
+use Rattle.ws_performing.proofs.Fits.{Takes, within-less}
+use Rattle.ws_performing.proofs.Keeps.{later-is}
+use Rattle.ws_performing.proofs.Turns.{rooms-less}
 use Rattle.ws_direct.specs.Directly.{PerformsDirectly}
 use Rattle.ws_direct.proofs.Behind.{room-front}
 use Rattle.ws_calls.specs.Credit.{HasPlacesFor, IsAtHand}

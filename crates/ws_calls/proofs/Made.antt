@@ -39,8 +39,8 @@ use Rattle.ws_laws.proofs.Begin.{Makes}
 use Rattle.ws_laws.proofs.EachCall.{each_call}
 use Rattle.ws_tables.specs.Room.{AreCounted, IsCounted, HasFew, HaveOwnSources, AreSourced}
 use Rattle.ws_tables.proofs.Counts.{counted-on, next-more}
-use Rattle.ws_effects.proofs.Fits.{copies-within}
-use Rattle.ws_effects.proofs.Keeps.{own-new}
+use Rattle.ws_performing.proofs.Fits.{copies-within}
+use Rattle.ws_performing.proofs.Keeps.{own-new}
 
 -- each tee reads a stream that there was, and no two read the same; there is one tee more at most, and no stream fewer
 abbrev pub Sourced : Slots → Done → Type 0

@@ -4,7 +4,7 @@ ghost use Rattle.std.specs.Prelude.{◌≡◌, ◌+◌, ℕ, [], ◌∷◌, Some
 ghost use Rattle.ws_steps.specs.Jobs.{job_effects};
 ghost use Rattle.ws_jobs.specs.Shorts.{job_in};
 ghost use Rattle.ws_direct.specs.Directly.{IsReadyFor, PerformsDirectly};
-ghost use Rattle.ws_effects.specs.Performing.{Performs};
+ghost use Rattle.ws_performing.specs.Performing.{Performs};
 ghost use Rattle.ws_tables.specs.Room.{IsResting, KeepsRecords};
 ghost use Rattle.ws_calls.specs.Credit.{HasPlacesFor, IsAtHand};
 ghost use Rattle.ws_calls.specs.First.{Began, FitsFirst, effect_of, is_whole};

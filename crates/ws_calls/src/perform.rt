@@ -10,7 +10,7 @@ ghost use Rattle.ws_steps.specs.Run as run;
 ghost use Rattle.ws_steps.specs.declared.calls.Call.TheVariants as call;
 ghost use Rattle.ws_steps.specs.declared.calls.Reply.TheVariants.{Done};
 ghost use Rattle.ws_tables.specs.Room.{IsPrepared, IsReady, IsResting};
-ghost use Rattle.ws_effects.specs.Performing.{PerformsAll};
+ghost use Rattle.ws_performing.specs.Performing.{PerformsAll};
 ghost use Rattle.ws_tables.specs.View.{slots_of};
 ghost use Rattle.ws_begin.specs.Begin.{IsBegun, IsSameBeside};
 

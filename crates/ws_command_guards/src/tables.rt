@@ -3,7 +3,7 @@ ghost use Rattle.std.specs.Prelude.{◌≡◌, []};
 ghost use Rattle.ws_alike.specs.Alike.{trim};
 ghost use Rattle.ws_tables.specs.Room.{CanTurn, HasRoomForAll, IsKept};
 ghost use Rattle.ws_tables.specs.View.{slots_of};
-ghost use Rattle.ws_effects.specs.Performing.{PerformsAll};
+ghost use Rattle.ws_performing.specs.Performing.{PerformsAll};
 
 use ws_tables::Tables;
 

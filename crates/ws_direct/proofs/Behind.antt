@@ -10,10 +10,10 @@ use Rattle.ws_room_laws.proofs.Readables.{prices-append}
 use Rattle.ws_room_laws.proofs.Room.{effects-stand}
 use Rattle.ws_tables.specs.Room.{room_of, AreCopied, HasRoomForAll, IsKept}
 use Rattle.ws_tables.specs.declared.tables.Tables.{Tables}
-use Rattle.ws_effects.specs.Performing.{Performs}
-use Rattle.ws_effects.proofs.Fits.{within-less}
-use Rattle.ws_effects.proofs.Streams.{each-one}
-use Rattle.ws_effects.proofs.Turns.{rooms-less}
+use Rattle.ws_performing.specs.Performing.{Performs}
+use Rattle.ws_performing.proofs.Fits.{within-less}
+use Rattle.ws_performing.proofs.Streams.{each-one}
+use Rattle.ws_performing.proofs.Turns.{rooms-less}
 use Rattle.ws_direct.specs.Directly.{Reaches, IsReadyFor, IsReadyAfter, PerformsAfter, PerformsDirectly, leaving, pulls_told}
 use Rattle.ws_direct.proofs.Reaching.{beside, by, left, stays, then}
 

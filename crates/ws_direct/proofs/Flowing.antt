@@ -32,8 +32,8 @@ use Rattle.ws_tables.specs.View.{slots_of, tee_of}
 use Rattle.ws_tables.specs.Room.{places_of, HasFew, AreSourced, IsKept}
 use Rattle.ws_tables.specs.declared.tables.Tables.{Tables}
 use Rattle.ws_tables.proofs.Counts.{row-more, row-few, row-sourced, counted-put}
-use Rattle.ws_effects.specs.Performing.{Performs}
-use Rattle.ws_effects.proofs.Records.{PipeTook, pipe-row, pipe-took}
+use Rattle.ws_performing.specs.Performing.{Performs}
+use Rattle.ws_performing.proofs.Records.{PipeTook, pipe-row, pipe-took}
 use Rattle.ws_direct.specs.Directly.{AreOpen, Reaches, looks_told}
 use Rattle.ws_direct.proofs.Reaching.{causing, by}
 

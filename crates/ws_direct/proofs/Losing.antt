@@ -13,8 +13,8 @@ use Rattle.ws_tables.specs.View.{slots_of}
 use Rattle.ws_tables.specs.Room.{HasRoomForAll, IsKept}
 use Rattle.ws_tables.specs.declared.tables.Stream.TheVariants.{Readable}
 use Rattle.ws_tables.specs.declared.tables.Tables.{Tables}
-use Rattle.ws_effects.proofs.Turns.{room-for}
-use Rattle.ws_effects.specs.Performing.{NotesGrowth}
+use Rattle.ws_performing.proofs.Turns.{room-for}
+use Rattle.ws_performing.specs.Performing.{NotesGrowth}
 use Rattle.ws_direct.specs.Directly.{Reaches}
 use Rattle.ws_direct.proofs.Told.{and-first, and-second}
 use Rattle.ws_direct.proofs.Streams.{PutStream, may-note, noted-put, readable-on}

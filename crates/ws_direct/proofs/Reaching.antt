@@ -9,10 +9,10 @@ use Rattle.ws_tables.specs.View.{slots_of}
 use Rattle.ws_tables.specs.Room.{Places, room_of, AreCopied, AreEnough, HasRoomForAll, IsKept, KeepsRecords}
 use Rattle.ws_tables.specs.declared.tables.Tables.{Tables}
 use Rattle.ws_tables.proofs.Places.{kept_same}
-use Rattle.ws_effects.specs.Performing.{Performs}
-use Rattle.ws_effects.proofs.Fits.{within-less}
-use Rattle.ws_effects.proofs.Kept.{kept_by}
-use Rattle.ws_effects.proofs.Turns.{rooms-less, next-room, next-turns}
+use Rattle.ws_performing.specs.Performing.{Performs}
+use Rattle.ws_performing.proofs.Fits.{within-less}
+use Rattle.ws_performing.proofs.Kept.{kept_by}
+use Rattle.ws_performing.proofs.Turns.{rooms-less, next-room, next-turns}
 use Rattle.ws_direct.specs.Directly.{Reaches, IsReadyFor, PerformsDirectly, leaving}
 
 abbrev pub no-effects : SeenAgenda

@@ -16,8 +16,8 @@ use Rattle.ws_steps.specs.Turns.{call_host, row}
 use Rattle.ws_promise.specs.Seen.{Seen, HasEventRoom, HasJobRoom, HasPromiseRoom}
 use Rattle.ws_tables.specs.Room.{IsKept}
 use Rattle.ws_tables.specs.declared.tables.Tables.{Tables}
-use Rattle.ws_effects.specs.Performing.{HasRoomFor, Performs}
-use Rattle.ws_effects.proofs.Turns.{room-for}
+use Rattle.ws_performing.specs.Performing.{HasRoomFor, Performs}
+use Rattle.ws_performing.proofs.Turns.{room-for}
 use Rattle.ws_direct.specs.Directly.{Reaches, IsReadyFor, PerformsDirectly}
 use Rattle.ws_direct.specs.Shortly.{calling_by, is_step, reacting_by}
 use Rattle.ws_direct.proofs.Reaching.{causing, by-records, quietly}

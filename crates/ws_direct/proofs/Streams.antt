@@ -25,8 +25,8 @@ use Rattle.ws_tables.specs.declared.tables.Stream.TheVariants.{Readable}
 use Rattle.ws_tables.specs.declared.tables.Tables.{Tables}
 use Rattle.ws_tables.proofs.Counts.{counted-on, row-more, row-few, row-sourced}
 use Rattle.ws_tables.proofs.Elements.{get-map, map-put}
-use Rattle.ws_effects.specs.Performing.{NotesGrowth, Performs}
-use Rattle.ws_effects.proofs.Streams.{waits-after, rooms-put, ReadableTook, readable-took, readable-row, has-both, both-have, paid, cover, noted-length}
+use Rattle.ws_performing.specs.Performing.{NotesGrowth, Performs}
+use Rattle.ws_performing.proofs.Streams.{waits-after, rooms-put, ReadableTook, readable-took, readable-row, has-both, both-have, paid, cover, noted-length}
 use Rattle.ws_direct.specs.Directly.{Reaches, pulls_told}
 use Rattle.ws_direct.proofs.Reaching.{causing, by}
 

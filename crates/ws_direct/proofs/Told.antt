@@ -16,7 +16,7 @@ use Rattle.ws_tables.specs.declared.tables.Stream.{Stream as StreamRecord}
 use Rattle.ws_tables.specs.declared.tables.Stream.TheVariants.{Readable}
 use Rattle.ws_tables.specs.declared.tables.Tables.{Tables}
 use Rattle.ws_tables.proofs.Elements.{get-map, stands-at}
-use Rattle.ws_effects.proofs.Streams.{readable-within}
+use Rattle.ws_performing.proofs.Streams.{readable-within}
 use Rattle.ws_direct.specs.Directly.{pulls_told}
 use Rattle.ws_direct.proofs.Reaching.{no-effects}
 

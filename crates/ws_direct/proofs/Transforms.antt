@@ -32,8 +32,8 @@ use Rattle.ws_promise.specs.Seen.{Seen}
 use Rattle.ws_tables.specs.View.{slots_of, tee_of}
 use Rattle.ws_tables.specs.Room.{places_of, IsKept, KeepsRecords}
 use Rattle.ws_tables.specs.declared.tables.Tables.{Tables}
-use Rattle.ws_effects.specs.Performing.{Performs}
-use Rattle.ws_effects.proofs.Records.{TransformTook, transform-row, transform-took}
+use Rattle.ws_performing.specs.Performing.{Performs}
+use Rattle.ws_performing.proofs.Records.{TransformTook, transform-row, transform-took}
 use Rattle.ws_direct.specs.Directly.{Reaches}
 use Rattle.ws_direct.proofs.Reaching.{causing, by-records}
 

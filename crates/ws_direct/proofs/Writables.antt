@@ -27,7 +27,7 @@ use Rattle.ws_tables.specs.View.{slots_of, stream_of}
 use Rattle.ws_tables.specs.Room.{two_lists, IsKept}
 use Rattle.ws_tables.specs.declared.tables.Stream.TheVariants.{Writable}
 use Rattle.ws_tables.specs.declared.tables.Tables.{Tables}
-use Rattle.ws_effects.proofs.Streams.{WritableTook, writable-took, has-both, both-have, paid, cover}
+use Rattle.ws_performing.proofs.Streams.{WritableTook, writable-took, has-both, both-have, paid, cover}
 use Rattle.ws_direct.specs.Directly.{Reaches, handed}
 use Rattle.ws_direct.proofs.Streams.{PutStream, stream-on, within-some, index-some, grows-by, unnoted}
 

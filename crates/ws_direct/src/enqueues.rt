@@ -10,7 +10,7 @@ use crate::growth::note_growth;
 use crate::left::leave_enqueue;
 use crate::pulls::pull_where;
 use crate::reads::{hand, is_going};
-use ws_effects::transform_halves;
+use ws_performing::transform_halves;
 use ws_steps::TransformId;
 use ws_tables::{LIST_PLACES, Stream, Tables};
 use ws_value::{StreamId, Value};

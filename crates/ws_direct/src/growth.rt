@@ -1,6 +1,6 @@
 //! Streams in which places are to be made.
 ghost use Rattle.std.specs.Prelude.{◌≡◌, ◌<◌, true, false, vec_len, vec_capacity};
-ghost use Rattle.ws_effects.specs.Performing.{NotesGrowth};
+ghost use Rattle.ws_performing.specs.Performing.{NotesGrowth};
 
 use ws_tables::Tables;
 use ws_value::StreamId;

@@ -14,13 +14,13 @@ use Rattle.ws_steps.specs.Slots.{Slots, Done}
 use Rattle.ws_steps.specs.Turns.{row}
 use Rattle.ws_tables.specs.View.{slots_of, stream_of, tee_of}
 use Rattle.ws_tables.specs.Room.{places_of, byte_lists, room_of, members_room, waiting_in, HasFew, AreSourced, IsKept}
-use Rattle.ws_effects.specs.Performing.{Performs}
+use Rattle.ws_performing.specs.Performing.{Performs}
 use Rattle.ws_tables.specs.declared.tables.Stream.TheVariants.{Bytes}
 use Rattle.ws_tables.specs.declared.tables.Tables.{Tables}
-use Rattle.ws_effects.proofs.Bytes.{ByteTook}
+use Rattle.ws_performing.proofs.Bytes.{ByteTook}
 use Rattle.ws_tables.proofs.BytePlaces.{bytes-ready, ready-bytes}
 use Rattle.ws_tables.proofs.Counts.{counted-on, row-more, row-few, row-sourced}
-use Rattle.ws_effects.proofs.Streams.{waits-among, waits-after, rooms-put, cover, noted-grown, noted-length}
+use Rattle.ws_performing.proofs.Streams.{waits-among, waits-after, rooms-put, cover, noted-grown, noted-length}
 use Rattle.ws_tables.proofs.Elements.{map-put}
 
 -- what the operation e of byte stream i takes: x and y are the record before and after it, p and fx the promises and the agenda

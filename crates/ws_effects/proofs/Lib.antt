@@ -1,13 +1,3 @@
 pub mod ByteAuto
 pub mod ByteDid
-pub mod Bytes
-pub mod Fits
-pub mod Going
-pub mod Handing
-pub mod Held
-pub mod Keeps
-pub mod Kept
-pub mod Records
-pub mod Streams
 pub mod Tees
-pub mod Turns

@@ -18,12 +18,12 @@ use Rattle.ws_promise.specs.Seen.{Seen, SeenAgenda}
 use Rattle.ws_tee.specs.Seen.{SeenTee, CanHand, CanPerform, acts_of, goes_to_both}
 use Rattle.ws_tables.specs.View.{slots_of, tee_of}
 use Rattle.ws_tables.specs.Room.{HasCopies, EachHasCopies, HasFew, AreSourced, IsKept, places_of}
-use Rattle.ws_effects.specs.Performing.{Performs}
+use Rattle.ws_performing.specs.Performing.{Performs}
 use Rattle.ws_tables.specs.declared.tables.Tables.{Tables}
 use Rattle.ws_tables.proofs.Counts.{counted-on, row-more, row-few, row-sourced}
-use Rattle.ws_effects.proofs.Keeps.{tees-queued, tees-members}
-use Rattle.ws_effects.proofs.Records.{within-none}
-use Rattle.ws_effects.proofs.Streams.{absent}
+use Rattle.ws_performing.proofs.Keeps.{tees-queued, tees-members}
+use Rattle.ws_performing.proofs.Records.{within-none}
+use Rattle.ws_performing.proofs.Streams.{absent}
 use Rattle.ws_tables.proofs.Elements.{get-map, put-is}
 
 pub tee-absent : (t : TeeId) (operation : TeeOperation) (x : Tables) → length (slots_of x).tees ≤ t.0 → x.caused.effects ≡ [] → Performs (Tee t operation) x x

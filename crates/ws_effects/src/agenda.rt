@@ -1,6 +1,6 @@
 //! The performing of effects: the first, then what it caused, then the others.
 ghost use Rattle.std.specs.Prelude.{◌≡◌, ◌≤◌, ◌<◌, ◌+◌, ◌++◌, [], reverse, true, false, vec_len, vec_capacity};
-ghost use Rattle.ws_effects.specs.Performing.{CanPutFirst, FindsNone, KeepsLeast, PerformsAll, TakesFirst, TakesOut};
+ghost use Rattle.ws_performing.specs.Performing.{CanPutFirst, FindsNone, KeepsLeast, PerformsAll, TakesFirst, TakesOut};
 ghost use Rattle.ws_tables.specs.Room.{CanTurn, HasRoomForAll, IsKept};
 
 use crate::effects::perform_at;
@@ -26,11 +26,10 @@ fn put_others(effects: &mut Vec<Effect>, others: &mut Vec<Effect>)
 
 /// Drops what is left of the effect that was performed.
 fn drop_performed(under_way: &mut Vec<Effect>)
-    requires alone { vec_len under_way.old ≡ 1 }
     ensures empty { under_way.new.items ≡ [] }
     ensures places { vec_capacity under_way.new ≡ vec_capacity under_way.old }
 {
-    let _effect = under_way.pop();
+    under_way.clear();
 }
 
 /// Takes out the first effect that was caused, and puts the others that were before those that wait; where none

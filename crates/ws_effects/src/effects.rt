@@ -1,7 +1,7 @@
 //! What one effect does.
 ghost use Rattle.std.specs.Prelude.{◌≡◌, [], ◌∷◌, reverse};
 ghost use Rattle.ws_steps.specs.declared.effects.Effect.TheVariants as effect;
-ghost use Rattle.ws_effects.specs.Performing.{GoesOn, HasRoomFor, Performs};
+ghost use Rattle.ws_performing.specs.Performing.{GoesOn, HasRoomFor, Performs};
 ghost use Rattle.ws_tables.specs.Room.{HasRoomForAll, IsKept, KeepsRecords};
 
 use crate::kinds::{
@@ -316,7 +316,7 @@ fn take_port(tables: &mut Tables, c: PortId, operation: &mut PortOperation)
 }
 
 /// Performs an effect where it stands, and causes what comes of it.
-#[tactic(auto, using(crate::proofs::Kept::kept_by), unfolding(ws_steps::specs::Turns::row))]
+#[tactic(auto, using(ws_performing::proofs::Kept::kept_by), unfolding(ws_steps::specs::Turns::row))]
 #[inline(always)]
 fn perform_alone(tables: &mut Tables, effect: &mut Effect)
     requires quiet { tables.old.caused.effects ≡ [] }

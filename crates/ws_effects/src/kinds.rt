@@ -1,6 +1,6 @@
 //! The kinds of record, a file a kind: the performing of its operations.
 ghost use Rattle.std.specs.Prelude.{◌≡◌, ◌<◌, true, false, vec_len, vec_capacity};
-ghost use Rattle.ws_effects.specs.Performing.{NotesFull, NotesGrowth};
+ghost use Rattle.ws_performing.specs.Performing.{NotesFull, NotesGrowth};
 
 mod byte;
 mod pipe;
@@ -12,13 +12,13 @@ mod transform;
 mod writable;
 
 pub(crate) use byte::{perform_byte, perform_byte_readable};
-pub use pipe::{perform_pipe, pipe_ends};
+pub(crate) use pipe::perform_pipe;
 pub(crate) use port::perform_port;
-pub use readable::perform_readable;
+pub(crate) use readable::perform_readable;
 pub(crate) use signal::perform_signal;
 pub(crate) use tee::perform_tee;
-pub use transform::{perform_transform, transform_halves};
-pub use writable::perform_writable;
+pub(crate) use transform::perform_transform;
+pub(crate) use writable::perform_writable;
 use ws_tables::Tables;
 use ws_value::{SignalId, StreamId};
 

@@ -9,7 +9,3 @@ mod effects;
 mod kinds;
 
 pub use agenda::perform_effects;
-pub use kinds::{
-    perform_pipe, perform_readable, perform_transform, perform_writable, pipe_ends,
-    transform_halves,
-};

@@ -15,8 +15,8 @@ use Rattle.ws_room_laws.proofs.Readables.{prices-append}
 use Rattle.ws_room_laws.proofs.Rows.{each-none}
 use Rattle.ws_laws.proofs.ReadableDoes.{OfReadable, readable-does}
 use Rattle.ws_laws.proofs.ByteDoes.{byte_readable-does, byte-does}
-use Rattle.ws_effects.proofs.Keeps.{each-times}
-use Rattle.ws_effects.proofs.Streams.{Took, each-one}
+use Rattle.ws_performing.proofs.Keeps.{each-times}
+use Rattle.ws_performing.proofs.Streams.{Took, each-one}
 
 -- where turns, promises, jobs, events and host's numbers are for nothing, so is all that an operation of a readable stream causes
 

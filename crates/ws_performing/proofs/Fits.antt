@@ -19,8 +19,8 @@ use Rattle.ws_tables.specs.View.{stream_of, signal_of}
 use Rattle.ws_tables.specs.Room.{requested_in, described_in, IsWithin}
 use Rattle.ws_tables.specs.declared.tables.Stream.{Stream as StreamRecord}
 use Rattle.ws_tables.specs.declared.tables.Stream.TheVariants.{Readable, Bytes, Writable}
-use Rattle.ws_effects.proofs.Keeps.{streams-keep-is, signals-keep-is, counts-at, one-most, same-number, tees-queued, tees-members, tees-descriptors, tees-copies}
-use Rattle.ws_effects.proofs.Streams.{each-one}
+use Rattle.ws_performing.proofs.Keeps.{streams-keep-is, signals-keep-is, counts-at, one-most, same-number, tees-queued, tees-members, tees-descriptors, tees-copies}
+use Rattle.ws_performing.proofs.Streams.{each-one}
 use Rattle.ws_tables.proofs.Elements.{get-map}
 
 -- the slots s' and the effects es take of each kind, with what the records keep for later, no more than s takes and keeps, and k

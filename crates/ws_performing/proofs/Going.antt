@@ -23,9 +23,9 @@ use Rattle.ws_room_laws.proofs.Rows.{measure-fall}
 use Rattle.ws_room_laws.proofs.Turns.{performed_next}
 use Rattle.ws_tables.specs.View.{slots_of}
 use Rattle.ws_tables.specs.Room.{AreEnough, HasRoomForAll, IsKept}
-use Rattle.ws_effects.specs.Performing.{GoesOn, Performs, effects_of}
+use Rattle.ws_performing.specs.Performing.{GoesOn, Performs, effects_of}
 use Rattle.ws_tables.specs.declared.tables.Tables.{Tables}
-use Rattle.ws_effects.proofs.Turns.{next-room, next-turns, put-fits}
+use Rattle.ws_performing.proofs.Turns.{next-room, next-turns, put-fits}
 
 -- one effect is caused
 abbrev causing : Effect → Tables → Tables

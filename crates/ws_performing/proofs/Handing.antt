@@ -16,7 +16,7 @@ use Rattle.ws_steps.specs.Tee as tee
 use Rattle.ws_steps.specs.Turns.{row}
 use Rattle.ws_room_laws.proofs.Readables.{prices-append}
 use Rattle.ws_room_laws.proofs.Rows.{row-takes}
-use Rattle.ws_effects.proofs.Fits.{copies-within}
+use Rattle.ws_performing.proofs.Fits.{copies-within}
 
 branch-hands : (r : Option Plain) (i : StreamId) (v : Value) → prices_of copies_alone (tee.unless_cancelled r i (EnqueueChunk v)) ≡ 0
 branch-hands None i v = refl

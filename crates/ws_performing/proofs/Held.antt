@@ -21,10 +21,10 @@ use Rattle.ws_tables.specs.View.{stream_of}
 use Rattle.ws_tables.specs.Room.{queued_in}
 use Rattle.ws_tables.specs.declared.tables.Stream.{Stream as StreamRecord}
 use Rattle.ws_tables.specs.declared.tables.Stream.TheVariants as records
-use Rattle.ws_effects.proofs.Bytes.{byte_readable-took, byte-took, readable-free, byte_readable-free, byte-free, descriptors-free}
-use Rattle.ws_effects.proofs.Fits.{members-free}
-use Rattle.ws_effects.proofs.Keeps.{signals-keep-is, tees-queued, tees-descriptors}
-use Rattle.ws_effects.proofs.Streams.{Took, readable-took, writable-took}
+use Rattle.ws_performing.proofs.Bytes.{byte_readable-took, byte-took, readable-free, byte_readable-free, byte-free, descriptors-free}
+use Rattle.ws_performing.proofs.Fits.{members-free}
+use Rattle.ws_performing.proofs.Keeps.{signals-keep-is, tees-queued, tees-descriptors}
+use Rattle.ws_performing.proofs.Streams.{Took, readable-took, writable-took}
 use Rattle.ws_tables.proofs.Elements.{get-map}
 
 -- the entries of a queue, with the places of descriptors

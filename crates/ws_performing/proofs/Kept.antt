@@ -4,7 +4,7 @@ use Rattle.ws_steps.specs.declared.effects.Effect.{Effect}
 use Rattle.ws_steps.specs.Slots.{Slots}
 use Rattle.ws_tables.specs.View.{slots_of}
 use Rattle.ws_tables.specs.Room.{HasFew, IsKept, KeepsRecords}
-use Rattle.ws_effects.specs.Performing.{Performs}
+use Rattle.ws_performing.specs.Performing.{Performs}
 use Rattle.ws_tables.specs.declared.tables.Tables.{Tables}
 use Rattle.ws_tables.proofs.Counts.{entries-more, row-few}
 use Rattle.ws_tables.proofs.Places.{kept_beside}

@@ -30,10 +30,10 @@ use Rattle.ws_room_laws.proofs.Transforms.{transform-takes}
 use Rattle.ws_room_laws.proofs.Rows.{each-none, get-other, same-or}
 use Rattle.ws_tables.specs.View.{slots_of, signal_of}
 use Rattle.ws_tables.specs.Room.{aborts_in, AllHaveMembers}
-use Rattle.ws_effects.specs.Performing.{Performs}
+use Rattle.ws_performing.specs.Performing.{Performs}
 use Rattle.ws_tables.specs.declared.tables.Tables.{Tables}
-use Rattle.ws_effects.proofs.Keeps.{signal-keeps-is, aborts-one, aborts-put}
-use Rattle.ws_effects.proofs.Streams.{Took, absent, each-one}
+use Rattle.ws_performing.proofs.Keeps.{signal-keeps-is, aborts-one, aborts-put}
+use Rattle.ws_performing.proofs.Streams.{Took, absent, each-one}
 use Rattle.ws_tables.proofs.Elements.{get-map, put-is}
 
 -- numbers of records

@@ -21,10 +21,10 @@ use Rattle.ws_room_laws.proofs.Readables.{readable-takes}
 use Rattle.ws_room_laws.proofs.Writables.{writable-takes}
 use Rattle.ws_tables.specs.View.{slots_of, stream_of}
 use Rattle.ws_tables.specs.Room.{HasPlaces, HasRooms, RoomsStay, AllCovered, waits_of, waiting_in}
-use Rattle.ws_effects.specs.Performing.{Performs}
+use Rattle.ws_performing.specs.Performing.{Performs}
 use Rattle.ws_tables.specs.declared.tables.Tables.{Tables}
 use Rattle.ws_tables.specs.declared.tables.Stream.{Stream as StreamRecord}
-use Rattle.ws_effects.proofs.Keeps.{each-times, waits-one, waits-put}
+use Rattle.ws_performing.proofs.Keeps.{each-times, waits-one, waits-put}
 use Rattle.ws_tables.proofs.Elements.{get-map, put-is}
 
 -- a stream's number is below the count of streams

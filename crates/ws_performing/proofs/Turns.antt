@@ -13,16 +13,16 @@ use Rattle.ws_room_laws.proofs.Room.{effects-stand}
 use Rattle.ws_room_laws.proofs.Turns.{performed_next, performed_none}
 use Rattle.ws_tables.specs.View.{slots_of}
 use Rattle.ws_tables.specs.Room.{Places, Lists, HasRooms, EachHasRooms, RoomsStay, room_of, members_room, HasRoomForAll, AreCopied, IsKept, AreEnough, CanTurn, later}
-use Rattle.ws_effects.specs.Performing.{CanPutFirst, GoesOn, HasRoomFor, Performs, PerformsAll, TakesFirst, FindsNone, KeepsLeast, TakesOut, effects_of}
+use Rattle.ws_performing.specs.Performing.{CanPutFirst, GoesOn, HasRoomFor, Performs, PerformsAll, TakesFirst, FindsNone, KeepsLeast, TakesOut, effects_of}
 use Rattle.ws_tables.specs.declared.tables.Stream.{Stream as StreamRecord}
 use Rattle.ws_tables.specs.declared.tables.Stream.TheVariants.{Readable, Bytes, Writable}
 use Rattle.ws_tables.specs.declared.tables.Tables.{Tables}
-use Rattle.ws_effects.proofs.Fits.{Takes, takes, requested-at, described-at, within-less, members-at, same-room, own-within, own-within-at, own-copies}
-use Rattle.ws_effects.proofs.Handing.{row-hands}
-use Rattle.ws_effects.proofs.Held.{held_at, queued-at, row-queues, row-describes}
-use Rattle.ws_effects.proofs.Keeps.{later-is}
+use Rattle.ws_performing.proofs.Fits.{Takes, takes, requested-at, described-at, within-less, members-at, same-room, own-within, own-within-at, own-copies}
+use Rattle.ws_performing.proofs.Handing.{row-hands}
+use Rattle.ws_performing.proofs.Held.{held_at, queued-at, row-queues, row-describes}
+use Rattle.ws_performing.proofs.Keeps.{later-is}
 use Rattle.ws_tables.proofs.Places.{kept_same}
-use Rattle.ws_effects.proofs.Streams.{each-one}
+use Rattle.ws_performing.proofs.Streams.{each-one}
 use Rattle.std.proofs.lemmas.List.{length-reverse, append-nil}
 use Rattle.ws_laws.proofs.Ages.{performed-age}
 

@@ -2,7 +2,7 @@
 ghost use Rattle.std.specs.Prelude.{◌≡◌, [], false};
 ghost use Rattle.ws_steps.specs.Slots.{has_byte, has_readable};
 ghost use Rattle.ws_steps.specs.declared.effects.Effect.TheVariants as effect;
-ghost use Rattle.ws_effects.specs.Performing.{HasRoomFor, Performs};
+ghost use Rattle.ws_performing.specs.Performing.{HasRoomFor, Performs};
 ghost use Rattle.ws_tables.specs.Room.{IsKept};
 ghost use Rattle.ws_tables.specs.View.{slots_of};
 

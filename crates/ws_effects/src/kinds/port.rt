@@ -4,7 +4,7 @@ ghost use Rattle.ws_steps.specs.Cross.{clones_first};
 ghost use Rattle.ws_steps.specs.Queues.{first_value};
 ghost use Rattle.ws_steps.specs.Slots.{writable_at};
 ghost use Rattle.ws_steps.specs.declared.effects.Effect.TheVariants as effect;
-ghost use Rattle.ws_effects.specs.Performing.{HasRoomFor, Performs};
+ghost use Rattle.ws_performing.specs.Performing.{HasRoomFor, Performs};
 ghost use Rattle.ws_tables.specs.Room.{KeepsRecords};
 ghost use Rattle.ws_tables.specs.View.{slots_of};
 

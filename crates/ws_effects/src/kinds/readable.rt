@@ -2,7 +2,7 @@
 ghost use Rattle.std.specs.Prelude.{◌≡◌, []};
 ghost use Rattle.ws_steps.specs.Slots.{has_readable};
 ghost use Rattle.ws_steps.specs.declared.effects.Effect.TheVariants as effect;
-ghost use Rattle.ws_effects.specs.Performing.{HasRoomFor, Performs};
+ghost use Rattle.ws_performing.specs.Performing.{HasRoomFor, Performs};
 ghost use Rattle.ws_tables.specs.Room.{IsKept};
 
 use super::{note_growth, perform_byte_readable};
@@ -13,7 +13,7 @@ use ws_tables::{LIST_PLACES, Stream, Tables};
 use ws_value::StreamId;
 
 /// Performs an operation of the readable stream of this number, where there is one, whichever its controller is.
-pub fn perform_readable(tables: &mut Tables, i: StreamId, operation: &mut ReadableOperation)
+pub(crate) fn perform_readable(tables: &mut Tables, i: StreamId, operation: &mut ReadableOperation)
     requires quiet { tables.old.caused.effects ≡ [] }
     requires room { HasRoomFor (effect.Readable i operation.old) tables.old }
     requires kept { IsKept tables.old }

@@ -1,7 +1,7 @@
 //! Tees.
 ghost use Rattle.std.specs.Prelude.{◌≡◌, []};
 ghost use Rattle.ws_steps.specs.declared.effects.Effect.TheVariants as effect;
-ghost use Rattle.ws_effects.specs.Performing.{HasRoomFor, Performs};
+ghost use Rattle.ws_performing.specs.Performing.{HasRoomFor, Performs};
 ghost use Rattle.ws_tables.specs.Room.{IsKept};
 
 use ws_steps::TeeOperation;

@@ -2,7 +2,7 @@
 ghost use Rattle.std.specs.Prelude.{◌≡◌, []};
 ghost use Rattle.ws_steps.specs.Slots.{has_writable};
 ghost use Rattle.ws_steps.specs.declared.effects.Effect.TheVariants as effect;
-ghost use Rattle.ws_effects.specs.Performing.{HasRoomFor, Performs};
+ghost use Rattle.ws_performing.specs.Performing.{HasRoomFor, Performs};
 ghost use Rattle.ws_tables.specs.Room.{IsKept};
 
 use super::note_growth;
@@ -12,7 +12,7 @@ use ws_value::StreamId;
 use ws_writable::Writable;
 
 /// Performs an operation of the writable stream of this number, where there is one.
-pub fn perform_writable(tables: &mut Tables, i: StreamId, operation: &mut WritableOperation)
+pub(crate) fn perform_writable(tables: &mut Tables, i: StreamId, operation: &mut WritableOperation)
     requires quiet { tables.old.caused.effects ≡ [] }
     requires room { HasRoomFor (effect.Writable i operation.old) tables.old }
     requires kept { IsKept tables.old }

@@ -3,7 +3,7 @@ use Rattle.ws_steps.specs.declared.effects.Effect.TheVariants.{ChunkSteps, Pipe}
 use Rattle.ws_steps.specs.declared.pipes.PipeOperation.TheVariants.{KeepChunk}
 use Rattle.ws_steps.specs.declared.readable.ReadRequest.TheVariants.{Pipe as PipeRequest}
 use Rattle.ws_tables.proofs.Loops.{empty}
-use Rattle.ws_effects.proofs.Going.{keep-is}
+use Rattle.ws_performing.proofs.Going.{keep-is}
 use Rattle.ws_direct.proofs.Reaching.{by, next-ready, then}
 use Rattle.ws_direct.proofs.Behind.{after-none, after-some, one-more, ready-now}
 use Rattle.ws_direct.proofs.after.keep_after.Goals as goal

@@ -2,7 +2,7 @@ use Rattle.std.proofs.Common.{◌∙◌, [], ◌∷◌, refl, sym}
 use Rattle.ws_steps.specs.declared.effects.Effect.TheVariants.{Give}
 use Rattle.ws_steps.specs.declared.effects.Gift.TheVariants.{This}
 use Rattle.ws_steps.specs.declared.effects.Use.TheVariants.{Resolve}
-use Rattle.ws_effects.proofs.Turns.{room-for}
+use Rattle.ws_performing.proofs.Turns.{room-for}
 use Rattle.ws_direct.proofs.Reaching.{quietly}
 use Rattle.ws_direct.proofs.Steps.{gives}
 use Rattle.ws_tables.proofs.Loops.{empty}

@@ -4,7 +4,7 @@ use Rattle.ws_steps.specs.declared.effects.Effect.TheVariants.{Readable, Transfo
 use Rattle.ws_steps.specs.declared.readable.ReadableOperation.TheVariants.{Enqueue as EnqueueChunk}
 use Rattle.ws_steps.specs.declared.transform.TransformOperation.TheVariants.{Enqueue, Enqueued}
 use Rattle.ws_tables.proofs.Elements.{stands-at}
-use Rattle.ws_effects.proofs.Records.{transform-absent}
+use Rattle.ws_performing.proofs.Records.{transform-absent}
 use Rattle.ws_direct.proofs.Reaching.{next-ready, nothing-done, then}
 use Rattle.ws_direct.proofs.Behind.{after-ready, after-then, next-all}
 use Rattle.ws_direct.proofs.Transforms.{enqueue-on}

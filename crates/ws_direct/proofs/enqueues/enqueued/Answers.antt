@@ -6,8 +6,8 @@ use Rattle.ws_steps.specs.Slots.{Slots, halves_of, halves_at, readable_at, writa
 use Rattle.ws_steps.specs.Transform as transform
 use Rattle.ws_tables.proofs.Elements.{stands-at}
 use Rattle.ws_tables.specs.View.{slots_of}
-use Rattle.ws_effects.proofs.Records.{transform-absent}
-use Rattle.ws_effects.proofs.Turns.{room-for}
+use Rattle.ws_performing.proofs.Records.{transform-absent}
+use Rattle.ws_performing.proofs.Turns.{room-for}
 use Rattle.ws_direct.proofs.Reaching.{no-effects, nothing-done, quietly}
 use Rattle.ws_direct.proofs.Transforms.{transforms-on}
 use Rattle.ws_direct.proofs.enqueues.enqueued.Goals as goal

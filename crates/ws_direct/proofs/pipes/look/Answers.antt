@@ -6,7 +6,7 @@ use Rattle.ws_steps.specs.declared.effects.Use.TheVariants.{React}
 use Rattle.ws_steps.specs.declared.promises.Step.TheVariants.{PipeReady}
 use Rattle.ws_steps.specs.declared.readable.ReadRequest.TheVariants.{Pipe as PipeRequest}
 use Rattle.ws_steps.specs.declared.readable.ReadableOperation.TheVariants.{Read}
-use Rattle.ws_effects.proofs.Records.{pipe-absent}
+use Rattle.ws_performing.proofs.Records.{pipe-absent}
 use Rattle.ws_direct.proofs.Reaching.{next-ready, nothing-done, then}
 use Rattle.ws_direct.specs.Directly.{Reaches, looks_told}
 use Rattle.ws_direct.proofs.pipes.look.Goals as goal

@@ -7,7 +7,7 @@ use Rattle.ws_steps.specs.declared.effects.Effect.TheVariants.{Pipe}
 use Rattle.ws_tables.proofs.Elements.{stands-at}
 use Rattle.ws_tables.specs.Room.{places_of}
 use Rattle.ws_tables.specs.View.{slots_of}
-use Rattle.ws_effects.proofs.Turns.{room-for}
+use Rattle.ws_performing.proofs.Turns.{room-for}
 use Rattle.ws_direct.proofs.Reaching.{effect-room}
 use Rattle.ws_direct.proofs.Flowing.{look-on, look-room}
 use Rattle.ws_direct.proofs.pipes.look_at_all.Goals as goal

@@ -8,8 +8,8 @@ use Rattle.ws_steps.specs.declared.promises.Step.TheVariants.{PipeWrote}
 use Rattle.ws_steps.specs.declared.pipes.PipeOperation.TheVariants.{GoOn, WriteChunk}
 use Rattle.ws_steps.specs.declared.writable.WritableOperation.TheVariants.{Write}
 use Rattle.ws_tables.proofs.Elements.{stands-at}
-use Rattle.ws_effects.proofs.Records.{pipe-absent}
-use Rattle.ws_effects.proofs.Turns.{room-for}
+use Rattle.ws_performing.proofs.Records.{pipe-absent}
+use Rattle.ws_performing.proofs.Turns.{room-for}
 use Rattle.ws_direct.proofs.Reaching.{next-ready, no-effects, nothing-done, quietly, then}
 use Rattle.ws_direct.proofs.Behind.{after-ready, after-then, next-all}
 use Rattle.ws_direct.proofs.Flowing.{written-on}

@@ -4,7 +4,7 @@ use Rattle.ws_steps.specs.declared.effects.Effect.TheVariants.{PullAlgorithm, Tr
 use Rattle.ws_steps.specs.declared.effects.Use.TheVariants.{React}
 use Rattle.ws_steps.specs.declared.promises.Step.TheVariants.{ReadablePull}
 use Rattle.ws_steps.specs.declared.transform.TransformOperation.TheVariants.{SourcePull}
-use Rattle.ws_effects.proofs.Going.{pull-is}
+use Rattle.ws_performing.proofs.Going.{pull-is}
 use Rattle.ws_direct.proofs.Reaching.{by, effect-room, next-ready, one-left, then}
 use Rattle.ws_direct.proofs.pulls.pull.Goals as goal
 

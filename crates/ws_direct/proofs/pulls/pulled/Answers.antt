@@ -5,7 +5,7 @@ use Rattle.ws_steps.specs.declared.readable.ReadableOperation.TheVariants.{PullS
 use Rattle.ws_readable.specs.Seen.{acts_of, pulling_where}
 use Rattle.ws_tables.specs.View.{stream_of}
 use Rattle.ws_tables.proofs.Elements.{stands-at}
-use Rattle.ws_effects.proofs.Streams.{readable-within}
+use Rattle.ws_performing.proofs.Streams.{readable-within}
 use Rattle.ws_direct.proofs.Reaching.{effect-room, next-ready, no-effects, one-left, quietly, then}
 use Rattle.ws_direct.proofs.Streams.{pulled-on}
 use Rattle.ws_direct.proofs.pulls.pulled.Goals as goal

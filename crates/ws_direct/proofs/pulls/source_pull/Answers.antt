@@ -5,8 +5,8 @@ use Rattle.ws_steps.specs.declared.effects.Use.TheVariants.{React}
 use Rattle.ws_steps.specs.declared.promises.Step.TheVariants.{ReadablePull}
 use Rattle.ws_steps.specs.declared.transform.TransformOperation.TheVariants.{SourcePull}
 use Rattle.ws_tables.proofs.Elements.{stands-at}
-use Rattle.ws_effects.proofs.Records.{transform-absent}
-use Rattle.ws_effects.proofs.Turns.{room-for}
+use Rattle.ws_performing.proofs.Records.{transform-absent}
+use Rattle.ws_performing.proofs.Turns.{room-for}
 use Rattle.ws_direct.proofs.Reaching.{next-ready, no-effects, nothing-done, then}
 use Rattle.ws_direct.proofs.Transforms.{pulls-half}
 use Rattle.ws_direct.proofs.pulls.source_pull.Goals as goal

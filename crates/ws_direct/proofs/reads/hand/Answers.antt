@@ -1,7 +1,7 @@
 use Rattle.std.proofs.Common.{[], ◌∷◌, arith}
 use Rattle.ws_steps.specs.declared.effects.Effect.TheVariants.{ChunkSteps, Pipe}
 use Rattle.ws_steps.specs.declared.pipes.PipeOperation.TheVariants.{KeepChunk}
-use Rattle.ws_effects.proofs.Going.{keep-is}
+use Rattle.ws_performing.proofs.Going.{keep-is}
 use Rattle.ws_direct.proofs.Reaching.{by, effect-room, next-ready, one-left, then}
 use Rattle.ws_direct.proofs.reads.hand.Goals as goal
 

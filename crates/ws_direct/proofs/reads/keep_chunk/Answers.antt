@@ -2,8 +2,8 @@ use Rattle.std.proofs.Common.{[], refl, arith}
 use Rattle.ws_steps.specs.declared.effects.Effect.TheVariants.{Pipe}
 use Rattle.ws_steps.specs.declared.pipes.PipeOperation.TheVariants.{KeepChunk}
 use Rattle.ws_tables.proofs.Elements.{stands-at}
-use Rattle.ws_effects.proofs.Records.{pipe-absent}
-use Rattle.ws_effects.proofs.Turns.{room-for}
+use Rattle.ws_performing.proofs.Records.{pipe-absent}
+use Rattle.ws_performing.proofs.Turns.{room-for}
 use Rattle.ws_direct.proofs.Reaching.{no-effects, nothing-done, quietly}
 use Rattle.ws_direct.proofs.Flowing.{chunk-kept}
 use Rattle.ws_direct.proofs.reads.keep_chunk.Goals as goal

@@ -4,9 +4,9 @@ use Rattle.ws_steps.specs.declared.readable.ReadRequest.TheVariants.{Pipe as Pip
 use Rattle.ws_steps.specs.declared.readable.ReadableOperation.TheVariants.{Read}
 use Rattle.ws_tables.specs.declared.tables.Stream.TheVariants.{Readable}
 use Rattle.ws_tables.specs.declared.tables.Tables.{Tables}
-use Rattle.ws_effects.proofs.Fits.{readable-here}
-use Rattle.ws_effects.proofs.Streams.{waits-among}
-use Rattle.ws_effects.proofs.Turns.{room-for}
+use Rattle.ws_performing.proofs.Fits.{readable-here}
+use Rattle.ws_performing.proofs.Streams.{waits-among}
+use Rattle.ws_performing.proofs.Turns.{room-for}
 use Rattle.ws_direct.specs.Directly.{pulls_told}
 use Rattle.ws_direct.proofs.Reaching.{effect-room, no-effects, one-left, then}
 use Rattle.ws_direct.proofs.Behind.{next-all, ready-after, ready-front, then-after}

@@ -3,7 +3,7 @@ use Rattle.ws_steps.specs.declared.effects.Effect.TheVariants.{Writable as Writa
 use Rattle.ws_steps.specs.declared.writable.WritableOperation.TheVariants.{HandOn}
 use Rattle.ws_tables.specs.View.{stream_of}
 use Rattle.ws_tables.proofs.Elements.{stands-at}
-use Rattle.ws_effects.proofs.Streams.{writable-absent, writable-within}
+use Rattle.ws_performing.proofs.Streams.{writable-absent, writable-within}
 use Rattle.ws_direct.proofs.Reaching.{no-effects}
 use Rattle.ws_direct.proofs.Behind.{nothing-kept}
 use Rattle.ws_direct.proofs.Writables.{chunk-on}

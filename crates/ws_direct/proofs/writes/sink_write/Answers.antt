@@ -10,8 +10,8 @@ use Rattle.ws_steps.specs.declared.transform.Taker.TheVariants.{ToTransform}
 use Rattle.ws_steps.specs.declared.transform.TransformOperation.TheVariants.{SinkWrite}
 use Rattle.ws_steps.specs.declared.writable.WritableOperation.TheVariants.{HandOn}
 use Rattle.ws_tables.proofs.Elements.{stands-at}
-use Rattle.ws_effects.proofs.Records.{transform-absent}
-use Rattle.ws_effects.proofs.Turns.{room-for}
+use Rattle.ws_performing.proofs.Records.{transform-absent}
+use Rattle.ws_performing.proofs.Turns.{room-for}
 use Rattle.ws_direct.proofs.Reaching.{next-ready, nothing-done, then}
 use Rattle.ws_direct.proofs.Behind.{after-ready, after-then, first-then, next-all}
 use Rattle.ws_direct.proofs.Transforms.{fresh-on, hands-did, waits-did}

@@ -6,7 +6,7 @@ use Rattle.ws_steps.specs.declared.effects.Use.TheVariants.{React}
 use Rattle.ws_steps.specs.declared.promises.Step.TheVariants.{Transformed}
 use Rattle.ws_steps.specs.declared.transform.TransformOperation.TheVariants.{TransformChunk}
 use Rattle.ws_tables.proofs.Elements.{stands-at}
-use Rattle.ws_effects.proofs.Records.{transform-absent}
+use Rattle.ws_performing.proofs.Records.{transform-absent}
 use Rattle.ws_direct.proofs.Reaching.{effect-room, next-ready, nothing-done, one-left, then}
 use Rattle.ws_direct.proofs.Transforms.{calls-on}
 use Rattle.ws_direct.proofs.writes.transform_chunk.Goals as goal

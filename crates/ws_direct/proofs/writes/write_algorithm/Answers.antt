@@ -6,7 +6,7 @@ use Rattle.ws_steps.specs.declared.promises.Step.TheVariants.{WritableWrite}
 use Rattle.ws_steps.specs.declared.transform.Taker.TheVariants.{ToHost}
 use Rattle.ws_steps.specs.declared.transform.TransformOperation.TheVariants.{SinkWrite}
 use Rattle.ws_steps.specs.declared.writable.WritableOperation.TheVariants.{HandOn}
-use Rattle.ws_effects.proofs.Going.{hand-is, write-is}
+use Rattle.ws_performing.proofs.Going.{hand-is, write-is}
 use Rattle.ws_direct.proofs.Reaching.{by, effect-room, next-ready, one-left, then}
 use Rattle.ws_direct.proofs.writes.write_algorithm.Goals as goal
 

@@ -11,8 +11,8 @@ use Rattle.ws_steps.specs.declared.transform.TransformOperation.TheVariants.{Wri
 use Rattle.ws_steps.specs.declared.writable.WritableOperation.TheVariants.{HandOn}
 use Rattle.ws_tables.proofs.Elements.{stands-at}
 use Rattle.ws_tables.specs.View.{slots_of}
-use Rattle.ws_effects.proofs.Records.{transform-absent}
-use Rattle.ws_effects.proofs.Turns.{room-for}
+use Rattle.ws_performing.proofs.Records.{transform-absent}
+use Rattle.ws_performing.proofs.Turns.{room-for}
 use Rattle.ws_direct.proofs.Reaching.{effect-room, next-ready, nothing-done, one-left, then}
 use Rattle.ws_direct.proofs.Behind.{after-ready, after-then, next-all}
 use Rattle.ws_direct.proofs.Transforms.{fresh-on, goes-did}

@@ -7,8 +7,8 @@ use Rattle.ws_tables.specs.declared.tables.Stream.TheVariants.{Writable}
 use Rattle.ws_tables.specs.declared.tables.Tables.{Tables}
 use Rattle.ws_tables.specs.View.{stream_of}
 use Rattle.ws_tables.proofs.Elements.{stands-at}
-use Rattle.ws_effects.proofs.Streams.{writable-absent, writable-within}
-use Rattle.ws_effects.proofs.Turns.{room-for}
+use Rattle.ws_performing.proofs.Streams.{writable-absent, writable-within}
+use Rattle.ws_performing.proofs.Turns.{room-for}
 use Rattle.ws_direct.specs.Directly.{Reaches}
 use Rattle.ws_direct.proofs.Reaching.{effect-room, next-ready, nothing-done, then}
 use Rattle.ws_direct.proofs.Streams.{noted-put}

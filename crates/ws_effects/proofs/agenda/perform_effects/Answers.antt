@@ -1,6 +1,6 @@
 use Rattle.std.proofs.Common.{sym, subst}
 use Rattle.ws_tables.proofs.Loops.{only-one}
-use Rattle.ws_effects.proofs.Turns.{Turning, begins, ends, turn-room, turn-found, turn-less, turn-on}
+use Rattle.ws_performing.proofs.Turns.{Turning, begins, ends, turn-room, turn-found, turn-less, turn-on}
 use Rattle.ws_effects.proofs.agenda.perform_effects.Goals as goal
 
 pub loop-tables-init : goal.loop-tables-init

@@ -1,7 +1,7 @@
 use Rattle.ws_steps.specs.Places.{measure}
-use Rattle.ws_effects.specs.Performing.{effects_of}
+use Rattle.ws_performing.specs.Performing.{effects_of}
 use Rattle.ws_tables.specs.View.{slots_of}
-use Rattle.ws_effects.proofs.Turns.{Turning}
+use Rattle.ws_performing.proofs.Turns.{Turning}
 use Rattle.ws_effects.proofs.agenda.perform_effects.Given as goal
 
 -- what is left to perform makes of the slots what all makes of the first

@@ -1,7 +1,7 @@
 use Rattle.ws_steps.specs.declared.effects.Effect.TheVariants.{Transform, Port, StartAlgorithm, ChunkSteps, CloseSteps, CloseStepsWith, ErrorSteps, CallHost}
 use Rattle.ws_tables.specs.View.{slots_of}
 use Rattle.ws_tables.proofs.Counts.{gift-more, settle-more, micro-more}
-use Rattle.ws_effects.proofs.Kept.{kept_by}
+use Rattle.ws_performing.proofs.Kept.{kept_by}
 use Rattle.ws_tables.proofs.Places.{kept_promises}
 use Rattle.ws_effects.proofs.effects.perform_alone.Goals as goal
 

@@ -1,5 +1,5 @@
-use Rattle.ws_effects.proofs.Going.{goes}
-use Rattle.ws_effects.proofs.Turns.{room-for}
+use Rattle.ws_performing.proofs.Going.{goes}
+use Rattle.ws_performing.proofs.Turns.{room-for}
 use Rattle.ws_effects.proofs.effects.perform_at.Goals as goal
 
 pub perform_alone-requires : goal.perform_alone-requires

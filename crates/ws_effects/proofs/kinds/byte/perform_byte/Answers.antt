@@ -14,9 +14,9 @@ use Rattle.ws_tables.specs.View.{slots_of, stream_of}
 use Rattle.ws_tables.specs.Room.{places_of}
 use Rattle.ws_effects.proofs.ByteAuto.{byte-auto}
 use Rattle.ws_effects.proofs.ByteDid.{Acted, Put, paid-for, performs, kept, byte-priced}
-use Rattle.ws_effects.proofs.Bytes.{ByteTook, byte-took}
-use Rattle.ws_effects.proofs.Fits.{byte-here}
-use Rattle.ws_effects.proofs.Streams.{byte-within, waits-among, byte-absent, byte-row}
+use Rattle.ws_performing.proofs.Bytes.{ByteTook, byte-took}
+use Rattle.ws_performing.proofs.Fits.{byte-here}
+use Rattle.ws_performing.proofs.Streams.{byte-within, waits-among, byte-absent, byte-row}
 use Rattle.ws_tables.proofs.Elements.{stands-at}
 use Rattle.ws_effects.proofs.kinds.byte.perform_byte.Goals as goal
 

@@ -14,9 +14,9 @@ use Rattle.ws_tables.specs.View.{slots_of, stream_of}
 use Rattle.ws_tables.specs.Room.{places_of}
 use Rattle.ws_effects.proofs.ByteAuto.{byte_readable-auto}
 use Rattle.ws_effects.proofs.ByteDid.{Acted, Put, paid-for, performs, kept, byte_readable-priced, rooms-for, spares-own}
-use Rattle.ws_effects.proofs.Bytes.{ByteTook, byte_readable-took}
-use Rattle.ws_effects.proofs.Fits.{readable-here}
-use Rattle.ws_effects.proofs.Streams.{byte-within, waits-among, byte_readable-absent, byte_readable-row}
+use Rattle.ws_performing.proofs.Bytes.{ByteTook, byte_readable-took}
+use Rattle.ws_performing.proofs.Fits.{readable-here}
+use Rattle.ws_performing.proofs.Streams.{byte-within, waits-among, byte_readable-absent, byte_readable-row}
 use Rattle.ws_tables.proofs.Elements.{stands-at}
 use Rattle.ws_effects.proofs.kinds.byte.perform_byte_readable.Goals as goal
 

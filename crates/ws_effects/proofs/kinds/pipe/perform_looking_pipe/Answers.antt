@@ -10,7 +10,7 @@ use Rattle.ws_steps.specs.Slots.{Slots, Done, found, ends_of, ends_at, source_at
 use Rattle.ws_steps.specs.Turns.{row}
 use Rattle.ws_tables.specs.View.{slots_of}
 use Rattle.ws_tables.proofs.Counts.{entries-more, counted-put}
-use Rattle.ws_effects.proofs.Records.{pipe-row, PipeTook, pipe-took}
+use Rattle.ws_performing.proofs.Records.{pipe-row, PipeTook, pipe-took}
 use Rattle.ws_tables.proofs.Elements.{stands-at}
 use Rattle.ws_effects.proofs.kinds.pipe.perform_looking_pipe.Goals as goal
 

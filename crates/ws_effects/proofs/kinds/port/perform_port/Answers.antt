@@ -9,7 +9,7 @@ use Rattle.ws_steps.specs.Queues.{first_value}
 use Rattle.ws_steps.specs.Slots.{Slots, Done, found, clones_at, writable_at, put_port}
 use Rattle.ws_steps.specs.Turns.{row}
 use Rattle.ws_tables.specs.View.{slots_of}
-use Rattle.ws_effects.proofs.Records.{port-absent, port-row, PortTook, port-took}
+use Rattle.ws_performing.proofs.Records.{port-absent, port-row, PortTook, port-took}
 use Rattle.ws_tables.proofs.Elements.{stands-at}
 use Rattle.ws_effects.proofs.kinds.port.perform_port.Goals as goal
 

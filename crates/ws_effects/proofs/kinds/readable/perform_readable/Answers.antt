@@ -13,10 +13,10 @@ use Rattle.ws_tables.specs.declared.tables.Stream.TheVariants.{Readable}
 use Rattle.ws_tables.specs.declared.tables.Tables.{Tables}
 use Rattle.ws_tables.specs.View.{slots_of, stream_of}
 use Rattle.ws_tables.specs.Room.{places_of, two_lists, room_of, members_room, waiting_in, HasFew, AreSourced, IsCounted}
-use Rattle.ws_effects.proofs.Streams.{readable-within, waits-among, waits-after, rooms-put, ReadableTook, readable-took, has-both, both-have, paid, cover, readable-row, noted-grown, noted-length}
+use Rattle.ws_performing.proofs.Streams.{readable-within, waits-among, waits-after, rooms-put, ReadableTook, readable-took, has-both, both-have, paid, cover, readable-row, noted-grown, noted-length}
 use Rattle.ws_tables.proofs.Elements.{stands-at, map-put}
 use Rattle.ws_tables.proofs.Counts.{counted-on, row-more, row-few, row-sourced}
-use Rattle.ws_effects.proofs.Fits.{readable-here}
+use Rattle.ws_performing.proofs.Fits.{readable-here}
 use Rattle.ws_effects.proofs.kinds.readable.perform_readable.Goals as goal
 
 pub index_mut-requires : goal.index_mut-requires

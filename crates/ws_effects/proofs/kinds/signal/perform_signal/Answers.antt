@@ -12,9 +12,9 @@ use Rattle.ws_steps.proofs.StreamLaws.{map-set}
 use Rattle.ws_tables.specs.declared.tables.Tables.{Tables}
 use Rattle.ws_tables.specs.View.{slots_of, signal_of}
 use Rattle.ws_tables.specs.Room.{places_of, room_of, members_room, aborts_in, HasFew, AreSourced, IsCounted}
-use Rattle.ws_effects.proofs.Records.{signal-absent, signal-row, signal-own, SignalTook, signal-did, aborts-among, aborts-after, paid-member, has-place, place-has, noted-full, cover-signal}
+use Rattle.ws_performing.proofs.Records.{signal-absent, signal-row, signal-own, SignalTook, signal-did, aborts-among, aborts-after, paid-member, has-place, place-has, noted-full, cover-signal}
 use Rattle.ws_tables.proofs.Elements.{stands-at, get-map, map-put}
-use Rattle.ws_effects.proofs.Streams.{noted-length}
+use Rattle.ws_performing.proofs.Streams.{noted-length}
 use Rattle.ws_effects.proofs.kinds.signal.perform_signal.Goals as goal
 
 pub returns-then-len-a-clause-performs : goal.returns-then-len-a-clause-performs

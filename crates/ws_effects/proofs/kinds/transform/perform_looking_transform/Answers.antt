@@ -9,7 +9,7 @@ use Rattle.ws_steps.specs.Slots.{Slots, Done, found, halves_of, halves_at, reada
 use Rattle.ws_steps.specs.Transform as transform
 use Rattle.ws_steps.specs.Turns.{row}
 use Rattle.ws_tables.specs.View.{slots_of}
-use Rattle.ws_effects.proofs.Records.{transform-row, TransformTook, transform-took}
+use Rattle.ws_performing.proofs.Records.{transform-row, TransformTook, transform-took}
 use Rattle.ws_tables.proofs.Elements.{stands-at}
 use Rattle.ws_effects.proofs.kinds.transform.perform_looking_transform.Goals as goal
 

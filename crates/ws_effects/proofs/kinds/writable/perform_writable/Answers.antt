@@ -13,8 +13,8 @@ use Rattle.ws_tables.specs.declared.tables.Stream.TheVariants.{Writable}
 use Rattle.ws_tables.specs.declared.tables.Tables.{Tables}
 use Rattle.ws_tables.specs.View.{slots_of, stream_of}
 use Rattle.ws_tables.specs.Room.{places_of, two_lists, room_of, members_room, waiting_in, HasFew, AreSourced, IsCounted}
-use Rattle.ws_effects.proofs.Fits.{writable-here}
-use Rattle.ws_effects.proofs.Streams.{writable-within, waits-after, rooms-put, WritableTook, writable-took, has-both, both-have, paid, cover, writable-absent, noted-grown, noted-length}
+use Rattle.ws_performing.proofs.Fits.{writable-here}
+use Rattle.ws_performing.proofs.Streams.{writable-within, waits-after, rooms-put, WritableTook, writable-took, has-both, both-have, paid, cover, writable-absent, noted-grown, noted-length}
 use Rattle.ws_tables.proofs.Elements.{stands-at, map-put}
 use Rattle.ws_tables.proofs.Counts.{counted-on, writable-more, row-few, row-sourced}
 use Rattle.ws_effects.proofs.kinds.writable.perform_writable.Goals as goal

@@ -1,0 +1,10 @@
+pub mod Bytes
+pub mod Fits
+pub mod Going
+pub mod Handing
+pub mod Held
+pub mod Keeps
+pub mod Kept
+pub mod Records
+pub mod Streams
+pub mod Turns
