@@ -1,3 +1,2 @@
 pub mod Elements
-pub mod Idle
 pub mod Looking

@@ -1,4 +1,4 @@
--- What calls and jobs begin with, in the places that there are.
+-- What calls begin with, in the places that there are, and what holds once a call or a job has begun.
 use Rattle.std.specs.Prelude.{◌≡◌, ◌+◌, ◌≤◌, ◌<◌, [], ◌∷◌, ◌++◌, length, Bool, false, None, vec_len, vec_capacity}
 use Rattle.ws_value.specs.declared.ids.PromiseId.{PromiseId}
 use Rattle.ws_pipe.specs.Seen.{SeenSignal}
@@ -12,7 +12,6 @@ use Rattle.ws_steps.specs.declared.locks.Lock.TheVariants.{Reader, ByobReader}
 use Rattle.ws_steps.specs.declared.port.Side.{Side}
 use Rattle.ws_steps.specs.Pipes.{new_signal}
 use Rattle.ws_steps.specs.Places.{prices_of, queued_alone, requests_alone, members_alone, descriptors_alone, copies_alone}
-use Rattle.ws_steps.specs.Slots.{Done}
 use Rattle.ws_steps.specs.Begun.{Begun}
 use Rattle.ws_steps.specs.LockCalls.{with_renewed, reject_renewed}
 use Rattle.ws_steps.specs.PipeCalls.{add_port, start_end}
@@ -20,14 +19,6 @@ use Rattle.ws_tables.specs.View.{slots_of}
 use Rattle.ws_tables.specs.Room.{places_of, queued_in, requested_in, described_in, CanTurn, HasRoomForAll, IsKept, KeepsRecords}
 use Rattle.ws_tables.specs.declared.tables.Stream.{Stream}
 use Rattle.ws_tables.specs.declared.tables.Tables.{Tables}
-
--- a job begins, in the places that there are. Its effects are caused
-pub record Begins (d : Done) (t t' : Tables) : Type 0 where
-  pub slots : slots_of t' ≡ d.slots
-  pub caused : t'.caused.effects ≡ d.caused
-  pub others : t'.others ≡ t.others
-  pub places : places_of t' ≡ places_of t
-  pub records : KeepsRecords t t'
 
 -- a call can begin: nothing is caused yet, and there are places for the promises, the locks and the effects that it makes
 pub record CanBegin (t : Tables) : Type 0 where

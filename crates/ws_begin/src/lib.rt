@@ -1,14 +1,13 @@
-//! What the calls and jobs of a realm begin with, over its tables.
+//! What the calls of a realm begin with, over its tables.
 //!
 //! A call is its checks in their order, what it answers and makes, and the first effects that it causes: these stand
 //! in a file for each kind of object that is asked (`streams`, `transforms`, `tees`, `readers`, `byob`, `writers`,
-//! `locks`, `controllers`, `pipes`, `ports`), and `calls` finds the file. `jobs` has the first effects of a job.
+//! `locks`, `controllers`, `pipes`, `ports`), and `calls` finds the file.
 #![tactic(auto)]
 
 mod byob;
 mod calls;
 mod controllers;
-mod jobs;
 mod locks;
 mod pipes;
 mod ports;
@@ -21,5 +20,4 @@ mod writers;
 
 pub use calls::begin;
 pub use controllers::enqueue;
-pub use jobs::begin_job;
 pub use replies::UNSUPPORTED;

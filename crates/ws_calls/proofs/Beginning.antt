@@ -20,7 +20,8 @@ use Rattle.ws_room_laws.proofs.Room.{Begins as BeginsWithin, begin-fits, job-fit
 use Rattle.ws_laws.proofs.Begin.{begin-makes}
 use Rattle.ws_tables.specs.View.{slots_of, stream_of, signal_of, tee_of}
 use Rattle.ws_tables.specs.Room.{Places, places_of, room_of, queued_in, requested_in, described_in, waiting_in, aborts_in, IsWithin, HasLists, HasRooms, AllCovered, AllHaveMembers, IsCounted, HasFew, AreSourced, HasCopies, AreCopied, asked, CanTurn, HasRoomForAll, IsReady, IsResting, IsKept}
-use Rattle.ws_begin.specs.Begin.{IsBegun, IsEmpty, Answers, Begins, MakesNone, MakesOne, MakesTwo, MakesSignal, RecordsAfter}
+use Rattle.ws_begin.specs.Begin.{IsBegun, IsEmpty, Answers, MakesNone, MakesOne, MakesTwo, MakesSignal, RecordsAfter}
+use Rattle.ws_begin_job.specs.Begin.{Begins}
 use Rattle.ws_tables.specs.declared.tables.Stream.{Stream as StreamRecord}
 use Rattle.ws_tables.specs.declared.tables.Stream.TheVariants.{Readable, Bytes, Writable}
 use Rattle.ws_tables.specs.declared.tables.Tables.{Tables}

@@ -16,7 +16,8 @@ ghost use Rattle.ws_begin.specs.Begin.{IsBegun, IsSameBeside};
 
 use crate::first::begin_first;
 use crate::settled::settle_done;
-use ws_begin::{UNSUPPORTED, begin, begin_job, enqueue};
+use ws_begin::{UNSUPPORTED, begin, enqueue};
+use ws_begin_job::begin_job;
 use ws_direct::enqueue as enqueue_at;
 use ws_effects::perform_effects;
 use ws_steps::{Answer, Call, Owner, Reply, TransformId};

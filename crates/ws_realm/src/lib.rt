@@ -4,7 +4,7 @@
 //! them, message ports with the streams at this end of them, promises and one job queue.
 //!
 //! It is thin: `ws_tables` has the tables, `ws_prepare` the taking of memory, `ws_effects` the performing of effects,
-//! `ws_begin` what calls and jobs begin with, `ws_calls` the performing of one whole.
+//! `ws_begin` what calls begin with, `ws_begin_job` what jobs begin with, `ws_calls` the performing of one whole.
 //! Here all memory is taken first, and a realm that performed 2^62 calls and jobs performs no more. `laws` has what
 //! holds over every run, `bytes` what holds of byte streams, `tees` what holds of tees, `ports` what holds of message
 //! ports, `wants` what holds where a host enqueues only while its transformer is at work, `chains` what holds of a

@@ -6,7 +6,7 @@ use Rattle.ws_tables.specs.Room.{Places}
 use Rattle.ws_tables.specs.View.{slots_of}
 use Rattle.ws_calls.proofs.Beginning.{job-begins}
 use Rattle.ws_tables.proofs.Places.{kept_same}
-use Rattle.ws_begin.proofs.Idle.{idle-begins, not-false}
+use Rattle.ws_begin_job.proofs.Idle.{idle-begins, not-false}
 use Rattle.ws_calls.proofs.perform.perform_uncommon_job.Goals as goal
 
 idle : (c : goal.Then-not-begin_job) → is_idle (slots_of c.args.tables.now) ≡ true

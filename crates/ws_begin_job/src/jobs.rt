@@ -4,7 +4,7 @@ ghost use Rattle.ws_promise.specs.Seen.{HasEffectRoom};
 ghost use Rattle.ws_steps.specs.Jobs as jobs;
 ghost use Rattle.ws_steps.specs.Run.{is_idle};
 ghost use Rattle.ws_tables.specs.View.{slots_of};
-ghost use Rattle.ws_begin.specs.Begin.{Begins};
+ghost use Rattle.ws_begin_job.specs.Begin.{Begins};
 
 use ws_promise::Agenda;
 use ws_steps::{

@@ -2,8 +2,8 @@ use Rattle.std.proofs.Common.{◌≡◌, ◌∙◌, None, sym, ap, refl}
 use Rattle.ws_steps.specs.Promises.{next_job}
 use Rattle.ws_steps.specs.Slots.{Done}
 use Rattle.ws_tables.specs.View.{slots_of}
-use Rattle.ws_begin.proofs.Idle.{begins-none}
-use Rattle.ws_begin.proofs.jobs.begin_job.Goals as goal
+use Rattle.ws_begin_job.proofs.Idle.{begins-none}
+use Rattle.ws_begin_job.proofs.jobs.begin_job.Goals as goal
 
 pub returns-in-None-clause-begins : goal.returns-in-None-clause-begins
 returns-in-None-clause-begins c =
