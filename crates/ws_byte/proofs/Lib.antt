@@ -1,5 +1,4 @@
 mod Closing
-mod Elements
 mod Looks
 mod Responding
 mod Serving

@@ -5,8 +5,9 @@ use Rattle.ws_value.specs.declared.ids.StreamId.{StreamId}
 use Rattle.ws_steps.specs.Bytes.{Acts, is_closed, invalidate_request, call_pull_if_needed, commit_to, commit_all, put_processed, respond_internal, respond_first, respond_closed, respond_readable, respond_full}
 use Rattle.ws_steps.specs.Descriptors.{Descriptor, rest_of, Processed, process_descriptors}
 use Rattle.ws_steps.specs.Queues.{append_bytes}
-use Rattle.ws_byte.specs.Seen.{before, with_first, first_of, IsFine}
-use Rattle.ws_byte.proofs.Elements.{kept_front, kept_rest, whole_stays}
+use Rattle.ws_descriptors.specs.Seen.{before, IsFine}
+use Rattle.ws_byte.specs.Seen.{with_first, first_of}
+use Rattle.ws_descriptors.proofs.Elements.{kept_front, kept_rest, whole_stays}
 
 -- what is a part of an element came with the response
 pub part_came : (d : Descriptor) (n : ℕ) → IsFine d → d.minimum ≤ length d.filled + n → (length d.filled + n) % d.element ≤ n

@@ -4,7 +4,7 @@ use Rattle.std.proofs.lemmas.List.{append-nil}
 use Rattle.ws_steps.specs.Descriptors.{Descriptor, Processed}
 use Rattle.ws_steps.specs.Readable as readable
 use Rattle.ws_readable.specs.Seen.{request_taken, after_request_taken}
-use Rattle.ws_byte.specs.Seen.{before}
+use Rattle.ws_descriptors.specs.Seen.{before}
 use Rattle.ws_value.specs.declared.ids.StreamId.{StreamId}
 use Rattle.ws_value.specs.declared.value.Value.TheVariants.{Bytes}
 use Rattle.ws_steps.specs.declared.effects.Effect.TheVariants.{ChunkSteps}

@@ -1,17 +1,17 @@
 -- What is seen of the record of a byte stream.
-use Rattle.std.specs.Prelude.{◌≡◌, ℕ, ◌+◌, ◌%◌, ◌<◌, ◌≤◌, Bool, true, false, List, [], ◌∷◌, ◌++◌, length, Option, Some, None, if◌then◌else◌, ⊤}
+use Rattle.std.specs.Prelude.{ℕ, ◌+◌, ◌<◌, ◌≤◌, Bool, true, false, List, [], ◌∷◌, ◌++◌, length, Option, Some, None, if◌then◌else◌, ⊤}
 use Rattle.ws_value.specs.declared.ids.StreamId.{StreamId}
 use Rattle.ws_promise.specs.Seen.{Seen, SeenAgenda, out_of}
 use Rattle.ws_queue.specs.Seen.{SeenByteQueue}
+use Rattle.ws_descriptors.specs.Seen.{Takes}
 use Rattle.ws_readable.specs.Seen.{SeenReadable}
 use Rattle.ws_steps.specs.declared.byte.ByteOperation.{ByteOperation}
-use Rattle.ws_steps.specs.declared.byte.RoomKind.{RoomKind}
 use Rattle.ws_steps.specs.declared.readable.ReadRequest.{ReadRequest}
 use Rattle.ws_steps.specs.declared.readable.ReadRequest.TheVariants.{Promise, Pipe, Tee}
 use Rattle.ws_steps.specs.declared.readable.ReadableOperation.{ReadableOperation}
 use Rattle.ws_steps.specs.declared.readable.ReadableOperation.TheVariants.{Read}
 use Rattle.ws_steps.specs.Bytes.{Slots, Acts, with_slots, process_requests}
-use Rattle.ws_steps.specs.Descriptors.{Descriptor, is_for_nobody, room_left, Processed, process_descriptors}
+use Rattle.ws_steps.specs.Descriptors.{Descriptor, is_for_nobody, room_left}
 use Rattle.ws_steps.specs.Queues.{append_bytes}
 use Rattle.ws_steps.specs.Places.{own_readable, own_byte, queued_alone, requests_alone, descriptors_alone}
 
@@ -30,13 +30,6 @@ pub record SeenByteStream : Type 0 where
 abbrev pub count : {A : Type 0} → Option A → ℕ
 count None = 0
 count (Some x) = 1
-
--- what the record keeps of a descriptor: whole elements are wanted, there is room for them, and they aren't filled yet
-pub record IsFine (d : Descriptor) : Type 0 where
-  pub element : 0 < d.element
-  pub whole : d.minimum % d.element ≡ 0
-  pub wanted : length d.filled < d.minimum
-  pub fits : d.minimum ≤ d.room
 
 -- there are places for n more: in the queue besides those for the descriptors, of which each may give its bytes to the queue
 abbrev pub HasQueueRoom : ℕ → SeenByteStream → Type 0
@@ -88,27 +81,10 @@ acts_of s p fx = record { slots = s.slots; out = out_of p fx }
 abbrev pub acts_with : Slots → SeenReadable → SeenByteQueue → Seen → SeenAgenda → Acts
 acts_with s r q p fx = record { slots = record s { stream = r.slots; queue = q.entries }; out = out_of p fx }
 
--- descriptors that are ready before what processing goes on to leave
-abbrev pub before : List Descriptor → Processed → Processed
-before ready x = record x { ready = ready ++ x.ready }
-
--- processing goes on, or rests
-abbrev pub processing : Bool → List Descriptor → List (List ℕ) → Processed
-processing true ds queue = process_descriptors ds queue
-processing false ds queue = record { ready = []; waiting = ds; queue = queue }
-
 -- the requests that wait are served from the queue, or not
 abbrev pub serving : StreamId → Bool → Acts → Acts
 serving me true a = process_requests me a.slots.stream.requests a
 serving me false a = a
-
--- a descriptor of whose room nothing is filled
-abbrev pub unfilled : ℕ → ℕ → ℕ → RoomKind → Descriptor
-unfilled room minimum element kind = record { filled = []; room = room; minimum = minimum; element = element; room_kind = kind }
-
--- what there is room for
-abbrev pub Takes : ℕ → Descriptor → Type 0
-Takes n d = length d.filled + n ≤ d.room
 
 -- the first descriptor has room for n bytes more, where there is one
 abbrev pub FirstTakes : ℕ → List Descriptor → Type 0

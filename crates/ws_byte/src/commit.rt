@@ -5,8 +5,8 @@ ghost use Rattle.ws_promise.specs.Seen.{HasEffectRoom, Seen};
 ghost use Rattle.ws_steps.specs.Bytes as rows;
 ghost use Rattle.ws_byte.specs.Seen.{acts_with};
 
-use crate::descriptor::Descriptor;
 use std::collections::VecDeque;
+use ws_descriptors::Descriptor;
 use ws_promise::Agenda;
 use ws_queue::ByteQueue;
 use ws_readable::Readable;

@@ -6,7 +6,7 @@ ghost use Rattle.ws_byte.specs.Seen.{HasQueueRoom, acts_of, detached, is_renounc
 
 use crate::ByteStream;
 use crate::commit::commit_all;
-use crate::process::process;
+use ws_descriptors::process;
 use ws_promise::{Agenda, Promises};
 use ws_steps::{Effect, ReadRequest};
 use ws_value::{Chunk, StreamId, Value};

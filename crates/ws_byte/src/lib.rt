@@ -5,12 +5,10 @@
 mod cancel;
 mod commit;
 mod controller;
-mod descriptor;
 mod enqueue;
 mod look;
 mod named;
 mod operations;
-mod process;
 mod pull_into;
 mod reader;
 mod respond;

@@ -2,11 +2,12 @@
 ghost use Rattle.std.specs.Prelude.{◌≡◌, ◌+◌, length, [], false};
 ghost use Rattle.ws_promise.specs.Seen.{HasEffectRoom};
 ghost use Rattle.ws_steps.specs.Bytes as rows;
-ghost use Rattle.ws_byte.specs.Seen.{HasDescriptorRoom, HasRequestRoom, IsFine, acts_of, after_waiting};
+ghost use Rattle.ws_descriptors.specs.Seen.{IsFine};
+ghost use Rattle.ws_byte.specs.Seen.{HasDescriptorRoom, HasRequestRoom, acts_of, after_waiting};
 
 use crate::ByteStream;
 use crate::controller::TYPE_ERROR;
-use crate::descriptor::Descriptor;
+use ws_descriptors::Descriptor;
 use ws_promise::{Agenda, Promises};
 use ws_steps::{Effect, ReadRequest, ReadableState, RoomKind};
 use ws_value::{Room, StreamId, Value};

@@ -8,7 +8,7 @@ ghost use Rattle.ws_steps.specs.Places.{descriptors_alone, own_read};
 ghost use Rattle.ws_byte.specs.Seen.{HasDescriptorRoom, HasRequestRoom, HasSpares, acts_of, spares_to};
 
 use crate::ByteStream;
-use crate::descriptor::Descriptor;
+use ws_descriptors::Descriptor;
 use ws_promise::{Agenda, Promises};
 use ws_steps::{Effect, ReadRequest, ReadableState, ReaderKind, RoomKind};
 use ws_value::{PromiseId, StreamId};

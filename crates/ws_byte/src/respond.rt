@@ -2,12 +2,12 @@
 ghost use Rattle.std.specs.Prelude.{◌≡◌, ◌≤◌, ◌+◌, ◌++◌, length, Some, false};
 ghost use Rattle.ws_promise.specs.Seen.{HasEffectRoom, Seen};
 ghost use Rattle.ws_steps.specs.Bytes as rows;
-ghost use Rattle.ws_byte.specs.Seen.{FirstTakes, HasDescriptorRoom, HasQueueRoom, IsFine, Takes, acts_of, with_first};
+ghost use Rattle.ws_descriptors.specs.Seen.{IsFine, Takes};
+ghost use Rattle.ws_byte.specs.Seen.{FirstTakes, HasDescriptorRoom, HasQueueRoom, acts_of, with_first};
 
 use crate::ByteStream;
 use crate::commit::{commit, commit_all};
-use crate::descriptor::Descriptor;
-use crate::process::{move_first, process};
+use ws_descriptors::{Descriptor, move_first, process};
 use ws_promise::Agenda;
 use ws_steps::ReadableState;
 use ws_value::{Chunk, RequestId, StreamId};

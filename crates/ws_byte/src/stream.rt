@@ -2,12 +2,13 @@
 ghost use Rattle.std.specs.Prelude.{◌≡◌, ◌≤◌, ◌+◌, ◌-◌, ◌∷◌, length, IfSome, IsOk, OnOk, OnSome};
 ghost use Rattle.ws_steps.specs.Bytes as rows;
 ghost use Rattle.ws_steps.specs.Descriptors.{rest_of};
-ghost use Rattle.ws_byte.specs.Seen.{HasDescriptorRoom, HasQueueRoom, HasRoom, HasSpares, IsFine, first_of};
+ghost use Rattle.ws_descriptors.specs.Seen.{IsFine};
+ghost use Rattle.ws_byte.specs.Seen.{HasDescriptorRoom, HasQueueRoom, HasRoom, HasSpares, first_of};
 
-use crate::descriptor::Descriptor;
 use std::alloc::Global;
 use std::collections::VecDeque;
 use std::marker::Model;
+use ws_descriptors::Descriptor;
 use ws_queue::ByteQueue;
 use ws_readable::Readable;
 use ws_steps::{Owner, ReaderKind, SizeBy};
@@ -36,7 +37,8 @@ pub struct ByteStream {
 impl Model for ByteStream {
     ghost use Rattle.std.specs.Prelude.{◌≡◌, ◌≤◌, All, IfSome, [], length, min};
     ghost use Rattle.std.specs.VecDeque.{deque_capacity, deque_len};
-    ghost use Rattle.ws_byte.specs.Seen.{IsFine, SeenByteStream, count};
+    ghost use Rattle.ws_descriptors.specs.Seen.{IsFine};
+    ghost use Rattle.ws_byte.specs.Seen.{SeenByteStream, count};
 
     ghost Value = { SeenByteStream };
 

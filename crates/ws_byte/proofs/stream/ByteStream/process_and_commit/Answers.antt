@@ -1,5 +1,5 @@
 use Rattle.std.proofs.Common.{◌∙◌, ap}
-use Rattle.ws_byte.specs.Seen.{before}
+use Rattle.ws_descriptors.specs.Seen.{before}
 use Rattle.ws_steps.specs.Descriptors.{process_descriptors}
 use Rattle.ws_promise.specs.Seen.{out_of}
 use Rattle.ws_steps.specs.Bytes.{Slots, Acts}

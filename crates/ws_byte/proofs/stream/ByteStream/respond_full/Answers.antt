@@ -2,7 +2,8 @@ use Rattle.std.proofs.Common.{rules, ◌≡◌, ◌+◌, ◌-◌, ◌%◌, ◌++
 use Rattle.ws_promise.specs.Seen.{out_of}
 use Rattle.ws_steps.specs.Bytes.{Slots, Acts, commit_all, respond_full}
 use Rattle.ws_steps.specs.Descriptors.{process_descriptors}
-use Rattle.ws_byte.specs.Seen.{acts_of, before, with_first}
+use Rattle.ws_descriptors.specs.Seen.{before}
+use Rattle.ws_byte.specs.Seen.{acts_of, with_first}
 use Rattle.ws_byte.proofs.Responding.{part_came, full_committed}
 use Rattle.ws_byte.proofs.stream.ByteStream.respond_full.Goals as goal
 

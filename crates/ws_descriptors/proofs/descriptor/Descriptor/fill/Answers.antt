@@ -2,9 +2,9 @@ use Rattle.std.proofs.Common.{rules, arith, ◌≡◌, ◌+◌, ◌≤◌, ◌-�
 use Rattle.std.specs.Prelude.{leb}
 use Rattle.ws_steps.specs.Queues.{front_bytes}
 use Rattle.ws_queue.proofs.Bytes.{front_length}
-use Rattle.ws_byte.proofs.Elements.{still_fine}
-use Rattle.ws_byte.proofs.descriptor.Descriptor.fill.Goals.{then-ready, else-ready}
-use Rattle.ws_byte.proofs.descriptor.Descriptor.fill.Goals as goal
+use Rattle.ws_descriptors.proofs.Elements.{still_fine}
+use Rattle.ws_descriptors.proofs.descriptor.Descriptor.fill.Goals.{then-ready, else-ready}
+use Rattle.ws_descriptors.proofs.descriptor.Descriptor.fill.Goals as goal
 
 pub returns-clause-fine : goal.returns-clause-fine
 returns-clause-fine c =

@@ -1,8 +1,8 @@
 use Rattle.std.proofs.Common.{◌≡◌, ◌+◌, ◌++◌, take, drop}
 use Rattle.std.specs.Prelude.{All}
 use Rattle.std.specs.VecDeque.{deque_len, deque_capacity}
-use Rattle.ws_byte.specs.Seen.{IsFine}
-use Rattle.ws_byte.proofs.process.move_first.Given as goal
+use Rattle.ws_descriptors.specs.Seen.{IsFine}
+use Rattle.ws_descriptors.proofs.processing.move_first.Given as goal
 
 -- those that were moved and those that are still to be are all that are to be
 abbrev pub invariant-loop-left : goal.invariant-loop-left

@@ -1,8 +1,8 @@
 use Rattle.std.proofs.Common.{arith, ◌≡◌, length, refl}
 use Rattle.ws_steps.specs.Queues.{front_bytes}
 use Rattle.ws_queue.proofs.Bytes.{front_length}
-use Rattle.ws_byte.proofs.Elements.{put_filled, seen_length}
-use Rattle.ws_byte.proofs.descriptor.Descriptor.fill_with.Goals as goal
+use Rattle.ws_descriptors.proofs.Elements.{put_filled, seen_length}
+use Rattle.ws_descriptors.proofs.descriptor.Descriptor.fill_with.Goals as goal
 
 pub returns-clause-filled : goal.returns-clause-filled
 returns-clause-filled c =

@@ -2,7 +2,7 @@
 ghost use Rattle.std.specs.Prelude.{◌≡◌, ◌≤◌, ◌+◌, ◌++◌, All, cond, drop, false, length, take};
 ghost use Rattle.std.specs.VecDeque.{deque_capacity, deque_len};
 ghost use Rattle.ws_steps.specs.Descriptors.{process_descriptors};
-ghost use Rattle.ws_byte.specs.Seen.{IsFine, before, processing};
+ghost use Rattle.ws_descriptors.specs.Seen.{IsFine, before, processing};
 
 use crate::descriptor::Descriptor;
 use std::collections::VecDeque;

@@ -1,9 +1,9 @@
 use Rattle.std.proofs.Common.{◌≡◌, true, ap, sym, ◌∙◌}
 use Rattle.std.proofs.lemmas.List.Elements.{All-drop, All-cons}
 use Rattle.ws_steps.specs.Queues.{is_empty}
-use Rattle.ws_byte.specs.Seen.{IsFine, before}
-use Rattle.ws_byte.proofs.Elements.{nothing_queued}
-use Rattle.ws_byte.proofs.process.process_first.Goals as goal
+use Rattle.ws_descriptors.specs.Seen.{IsFine, before}
+use Rattle.ws_descriptors.proofs.Elements.{nothing_queued}
+use Rattle.ws_descriptors.proofs.processing.process_first.Goals as goal
 
 pub returns-then-is_empty-clause-processed : goal.returns-then-is_empty-clause-processed
 returns-then-is_empty-clause-processed c =

@@ -2,8 +2,8 @@ use Rattle.std.proofs.Common.{◌≡◌, ◌+◌, ◌≤◌, length}
 use Rattle.std.specs.Prelude.{All, cond}
 use Rattle.std.specs.VecDeque.{deque_len, deque_capacity}
 use Rattle.ws_steps.specs.Descriptors.{process_descriptors}
-use Rattle.ws_byte.specs.Seen.{IsFine, before, processing}
-use Rattle.ws_byte.proofs.process.process.Given as goal
+use Rattle.ws_descriptors.specs.Seen.{IsFine, before, processing}
+use Rattle.ws_descriptors.proofs.processing.process.Given as goal
 
 -- those that are ready and what processing goes on to leave are all that it leaves
 abbrev pub invariant-loop-going : goal.invariant-loop-going

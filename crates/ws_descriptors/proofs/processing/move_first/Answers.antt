@@ -1,8 +1,8 @@
 use Rattle.std.proofs.Common.{rules, arith, ◌≡◌, ◌∷◌, ◌∙◌}
 use Rattle.std.proofs.lemmas.List.Elements.{All-drop}
-use Rattle.ws_byte.specs.Seen.{IsFine}
-use Rattle.ws_byte.proofs.Elements.{moved_first}
-use Rattle.ws_byte.proofs.process.move_first.Goals as goal
+use Rattle.ws_descriptors.specs.Seen.{IsFine}
+use Rattle.ws_descriptors.proofs.Elements.{moved_first}
+use Rattle.ws_descriptors.proofs.processing.move_first.Goals as goal
 
 pub loop-left-preserved : goal.loop-left-preserved
 loop-left-preserved c =

@@ -2,7 +2,7 @@
 use Rattle.std.proofs.Common.{◌≡◌, ◌∙◌, ℕ, zero, suc, ◌+◌, ◌-◌, ◌*◌, ◌/◌, ◌%◌, ◌<◌, ◌≤◌, List, [], ◌∷◌, ◌++◌, length, take, drop, ⊎_elim, refl, sym, ap, arith}
 use Rattle.std.proofs.lemmas.Bool.{cases_lt, le-leb}
 use Rattle.std.specs.Prelude.{leb, true, false}
-use Rattle.ws_byte.specs.Seen.{IsFine}
+use Rattle.ws_descriptors.specs.Seen.{IsFine}
 use Rattle.std.proofs.lemmas.List.{length-append, length-take, append_assoc, take-append-drop, take_at, drop_at}
 use Rattle.ws_steps.specs.Descriptors.{Descriptor, process_descriptors}
 use Rattle.ws_steps.specs.Queues.{is_empty}

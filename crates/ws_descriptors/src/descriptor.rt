@@ -3,7 +3,7 @@ ghost use Rattle.std.specs.Prelude.{◌≡◌, ◌≤◌, ◌+◌, ◌-◌, ◌%
 ghost use Rattle.ws_steps.specs.Descriptors as descriptors;
 ghost use Rattle.ws_steps.specs.Queues as queues;
 ghost use Rattle.ws_steps.specs.declared.byte.RoomKind.TheVariants.{ForNobody};
-ghost use Rattle.ws_byte.specs.Seen.{IsFine, Takes, unfilled};
+ghost use Rattle.ws_descriptors.specs.Seen.{IsFine, Takes, unfilled};
 
 use std::marker::Model;
 use ws_queue::{ByteQueue, write};
