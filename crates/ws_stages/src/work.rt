@@ -23,12 +23,23 @@ pub struct Pushed {
 
 /// A stage with what it keeps between chunks. After an ending that isn't fine, a flush, or want of memory it is asked
 /// nothing more; one that found no memory ended fine.
-#[derive(Drop)]
 pub struct Work {
     stage: Stage,
     cut: Cut,
     pushes: u64,
     stopped: bool,
+}
+
+// Called wherever a stage at work may be dropped; a derived drop would be written out there, field by field.
+impl Drop for Work {
+    fn drop(self) {
+        let Work {
+            stage: _,
+            cut: _,
+            pushes: _,
+            stopped: _,
+        } = self;
+    }
 }
 
 impl Model for Work {
