@@ -8,12 +8,12 @@ ghost use Rattle.ws_runner.specs.Place.{Moves};
 
 use crate::chain::Chain;
 use crate::place::Place;
-use crate::wake::{Bells, Waits};
 use crossbeam_utils::sync::Parker;
 use std::alloc::Global;
 use std::sync::{Wait, WaitMethods};
 use ws_io::{Sink, Source, Status};
 use ws_node::{Head, Tail, Turn};
+use ws_wake::{Bells, Waits};
 
 /// What the turns of one round came to.
 #[derive(Clone, Copy, PartialEq, Eq)]

@@ -10,7 +10,6 @@ mod place;
 mod ready;
 mod running;
 mod trace;
-mod wake;
 mod worker;
 
 pub use nodes::run_nodes;

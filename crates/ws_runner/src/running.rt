@@ -10,7 +10,6 @@ use crate::caller::drive_rest;
 use crate::chain::Chain;
 use crate::place::Place;
 use crate::ready::Ready;
-use crate::wake::Bells;
 use crate::worker::{join_all, start_all};
 use crossbeam_utils::sync::Parker;
 use std::alloc::Global;
@@ -20,6 +19,7 @@ use std::thread;
 use std::thread::{Scope, Threads};
 use ws_io::{Gate, Sink, Source, Status};
 use ws_node::Middle;
+use ws_wake::Bells;
 
 /// What the caller does while the workers run.
 trait Rest {

@@ -5,56 +5,45 @@ ghost use Rattle.ws_node.specs.Nodes.{Each, MiddleGoes};
 ghost use Rattle.ws_runner.specs.Place.{ArePlacesOf, IsPlaceOf};
 
 use crate::place::{HandsBack, Place};
-use crate::wake::{Bells, Waits};
-use crossbeam_utils::sync::Parker;
 use std::alloc::Global;
 use std::snapshot::Snapshot;
 use std::sync::{Wait, WaitMethods};
 use std::thread::{Scope, Threads};
 use ws_io::Gate;
 use ws_node::{Middle, Turn};
+use ws_wake::{Bells, Waits, Worker};
 
-/// A worker, before its start.
-#[derive(Drop)]
-pub struct Worker {
-    /// From 1.
-    pub number: u32,
-    pub parker: Parker,
-}
-
-impl Worker {
-    /// Drives a node until it is over. Where it finds nothing to do it is woken by those who drive its neighbours.
-    fn drive<R: Wait, G: Gate>(
-        self,
-        rt: &R,
-        alloc: Global,
-        node: Middle,
-        bells: &Bells,
-        gate: &G,
-    ) -> Middle
-        ensures { MiddleGoes node result }
-    {
-        let mut node = node;
-        let mut waits = Waits::new();
-        let mut turn = 0u64;
-        for _ in rt.forever() {
-            turn = turn.saturating_add(1);
-            gate.enter(self.number, turn);
-            let before = node.posted();
-            match node.turn(alloc) {
-                Turn::Worked => {
-                    waits.end();
-                    bells.wake_after(self.number, false, before, node.posted());
-                }
-                Turn::Ended | Turn::NoMemory => {
-                    bells.wake_after(self.number, true, before, node.posted());
-                    return node;
-                }
-                Turn::Idle | Turn::Spent => waits.pause(rt, &self.parker),
+/// Drives a node until it is over. Where it finds nothing to do it is woken by those who drive its neighbours.
+fn drive<R: Wait, G: Gate>(
+    rt: &R,
+    alloc: Global,
+    node: Middle,
+    worker: Worker,
+    bells: &Bells,
+    gate: &G,
+) -> Middle
+    ensures { MiddleGoes node result }
+{
+    let mut node = node;
+    let mut waits = Waits::new();
+    let mut turn = 0u64;
+    for _ in rt.forever() {
+        turn = turn.saturating_add(1);
+        gate.enter(worker.number, turn);
+        let before = node.posted();
+        match node.turn(alloc) {
+            Turn::Worked => {
+                waits.end();
+                bells.wake_after(worker.number, false, before, node.posted());
             }
+            Turn::Ended | Turn::NoMemory => {
+                bells.wake_after(worker.number, true, before, node.posted());
+                return node;
+            }
+            Turn::Idle | Turn::Spent => waits.pause(rt, &worker.parker),
         }
-        unreachable!()
     }
+    unreachable!()
 }
 
 /// Starts a worker. Where it is refused a thread, its node is the caller's to drive.
@@ -81,7 +70,7 @@ fn start<'s, E, R: Wait + Sync, G: Gate>(
             if bells.is_refused(number) {
                 node
             } else {
-                worker.drive(rt, alloc, node, bells, gate)
+                drive(rt, alloc, node, worker, bells, gate)
             }
         },
     );

@@ -1,12 +1,12 @@
 use Rattle.std.specs.Prelude.{◌≡◌, List, [], ◌∷◌, ◌++◌, length}
 use Rattle.std.specs.Vec.Iter.{into_iter_items}
 use Rattle.std.proofs.Common.{arith, sym, subst, ap, ◌∙◌, append_assoc, length-append}
+use Rattle.ws_wake.specs.declared.sleepers.Worker.{Worker}
 use Rattle.ws_node.specs.declared.node.Node.{Node}
 use Rattle.ws_node.specs.Nodes.{Each}
 use Rattle.ws_node.proofs.Joining.{none-left}
 use Rattle.ws_runner.specs.Place.{ArePlacesOf, IsPlaceOf}
 use Rattle.ws_runner.specs.declared.place.Place.{Place}
-use Rattle.ws_runner.specs.declared.worker.Worker.{Worker}
 use Rattle.ws_runner.proofs.Places.{each-length, each-snoc}
 use Rattle.ws_runner.proofs.worker.start_all.Goals as goal
 

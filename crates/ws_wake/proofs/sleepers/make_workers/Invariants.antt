@@ -1,5 +1,5 @@
 use Rattle.std.proofs.Common.{◌≡◌, vec_len}
-use Rattle.ws_runner.proofs.ready.make_workers.Given as goal
+use Rattle.ws_wake.proofs.sleepers.make_workers.Given as goal
 
 abbrev pub invariant-loop : goal.invariant-loop
 invariant-loop l = vec_len l.workers ≡ l.counter

@@ -1,7 +1,7 @@
 use Rattle.ws_node.specs.Nodes.{any_bytes, of_neither}
 use Rattle.ws_node.proofs.Going.{went-same}
 use Rattle.ws_runner.proofs.Places.{middle-then}
-use Rattle.ws_runner.proofs.worker.Worker.drive.Goals as goal
+use Rattle.ws_runner.proofs.worker.drive.Goals as goal
 
 pub loop-init : goal.loop-init
 loop-init g c = went-same c.args.node of_neither any_bytes
