@@ -1,26 +1,24 @@
-"""Proves and builds the program, in a copy of its crates, by the kit's own gate: `rt ci` proves as many crates side by side as there are processors
-and memory for, those with the longest chain behind them first. Some kits keep what passed, for a build that was interrupted and for the gate. It says
-on standard error how far it is."""
+"""Proves and builds the program, in copies of its crates, by the kit's own gate: `rt ci` proves as many crates side by side as there are processors
+and memory for, those with the longest chain behind them first. Some kits keep what passed, for a build that was interrupted, for the gate and for a
+run beside: there two runs share the work. It says on standard error how far it is."""
 import contextlib
 import errno
 import fcntl
 import hashlib
 import os
 import pathlib
-import queue
 import re
 import shutil
 import signal
 import subprocess
 import sys
 import tempfile
-import threading
 import time
 
-import children
 import exits
 import kit
 import progress
+import runs
 import sources
 
 HEARTBEAT_SECONDS = 30
@@ -55,7 +53,7 @@ def lock():
 
 @contextlib.contextmanager
 def room():
-    """A folder for the copy, which goes as the build ends; and before it what killed builds of this checkout left. Where TMPDIR names none it is in
+    """A folder for the copies, which goes as the build ends; and before it what killed builds of this checkout left. Where TMPDIR names none it is in
     /var/tmp, since a build takes gigabytes."""
     top = os.environ.get("TMPDIR") or ("/var/tmp" if os.access("/var/tmp", os.W_OK) else None)
     prefix = f"streams-build-{hashlib.sha256(os.fsencode(sources.ROOT)).hexdigest()[:12]}-"
@@ -108,59 +106,37 @@ def tell(line):
     write(PROGRESS, line)
 
 
-def lines_of(running):
-    """The lines that a process writes, and an empty one where it is silent for a second."""
-    lines = queue.Queue()
+class News:
+    """What is told of a build on its way: each crate once, whichever run has it first, and how far it is from time to time."""
 
-    def read():
-        for line in running.stdout:
-            lines.put(line)
-        lines.put(None)
+    def __init__(self, copies):
+        self.far, self.begun, self.told = progress.Progress([it.crates for it in copies]), time.monotonic(), 0.0
 
-    try:
-        threading.Thread(target=read, daemon=True).start()
-    except RuntimeError:
-        raise exits.Stop(exits.NO_PROCESS, "a thread can't be started") from None
-    while True:
-        try:
-            line = lines.get(timeout=1)
-        except queue.Empty:
-            line = ""
-        if line is None:
-            return
-        yield line
+    def hear(self, line):
+        """Tells what is new in a line of rt, and gives the crate that it says is proved or kept."""
+        ended, gone = ENDED.match(line), time.monotonic() - self.begun
+        # (what one run proved is kept for the other, which says so)
+        new = ended if ended and ended[1] in self.far.untold else None
+        if new and new[2] == "proved":
+            self.far.proved(new[1], gone)
+        elif new:
+            self.far.kept(new[1])
+        if new or gone - self.told >= HEARTBEAT_SECONDS:
+            tell(f"{f'{new[1]} {new[2]}' if new else 'proving'}: {self.far.told(gone)}")
+            self.told = gone
+        return ended and ended[1]
 
 
-def prove(folder):
-    """Proves and builds the copy, says how far it is, and stops where that fails."""
-    try:
-        # What rt starts ends with rt; and rt with this process.
-        running = subprocess.Popen(
-            ["rt", "ci"], cwd=folder, stdin=subprocess.DEVNULL, stdout=subprocess.PIPE, stderr=subprocess.STDOUT, text=True, errors="replace",
-            preexec_fn=children.ended_by(signal.SIGKILL),
-        )
-    except OSError as error:
-        raise exits.Stop(exits.NO_PROCESS, f"rt can't be started: {error.strerror}") from None
-    said, begun, far, told = [], time.monotonic(), progress.Progress(), 0.0
-    try:
-        for line in lines_of(running):
-            said.append(line)
-            ended, gone = ENDED.match(line), time.monotonic() - begun
-            if ended and ended[1] in far.cost:
-                if ended[2] == "proved":
-                    far.proved(ended[1], gone)
-                else:
-                    far.kept(ended[1])
-            if ended or gone - told >= HEARTBEAT_SECONDS:
-                tell(f"{f'{ended[1]} {ended[2]}' if ended else 'proving'}: {far.told(gone)}")
-                told = gone
-        status = running.wait()
-    finally:
-        running.kill()
-        running.wait()
-    if status:
-        exits.put("".join(said))
-        raise exits.Stop(exits.NOT_PROVED, "a crate could not be proved, or the program not built: what rt said stands above")
+def prove(copies):
+    """Proves the crates and builds the program by a run over each copy, says how far that is, and stops where one fails. The next run begins as the one
+    before says that the crate which its copy names is proved or kept, or as it ends."""
+    news = News(copies)
+    with runs.Runs() as under_way:
+        for copy in copies:
+            under_way.start(copy.folder)
+            for line in under_way.lines():
+                if news.hear(line) == copy.next_behind:
+                    break
 
 
 def install(made, told, begun):
@@ -180,11 +156,12 @@ def make():
     begun = LOCK.stat().st_mtime
     sources.look_again()
     with room() as folder:
-        sources.copy_to(folder)
+        copies = sources.copies(folder, kit.keeps_beside())
+        whole = copies[-1].folder
         # (of what is proved, and not of what may change beside it)
-        told = sources.sum_of(folder)
-        prove(folder)
-        install(folder / "crates" / sources.PROGRAM / "out" / sources.PROGRAM, told, begun)
+        told = sources.sum_of(whole)
+        prove(copies)
+        install(whole / "crates" / sources.PROGRAM / "out" / sources.PROGRAM, told, begun)
 
 
 @contextlib.contextmanager

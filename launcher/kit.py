@@ -1,5 +1,6 @@
 """The Rattle kit, whose command `rt` proves and builds."""
 import os
+import pathlib
 import shutil
 import subprocess
 
@@ -35,3 +36,8 @@ def require():
 def keeps():
     """Whether `rt ci` keeps what it proved for a later run. A kit in which it does has a word for a run that keeps nothing."""
     return "--anew" in said("help")
+
+
+def keeps_beside():
+    """Whether a run of `rt ci` can take at once what another one proves. That is kept beside the kit, where somebody else's kit lets nobody write."""
+    return keeps() and os.access(pathlib.Path(shutil.which("rt")).resolve().parent.parent.parent, os.W_OK)

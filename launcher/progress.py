@@ -8,8 +8,8 @@ import sources
 ROW = re.compile(r"^\| (\w+) \| *[\d,]* *\| *[\d,]+ \| *([\d,]+) \|", re.MULTILINE)
 # Of a crate without a row.
 USUAL_SECONDS = 30
-# How much sooner a proof ends with more processors.
-GAIN = {1: 1.0, 2: 1.3, 3: 1.45, 4: 1.6}
+# How many times as fast a proof is with more processors, as seen of large crates.
+GAIN = {1: 1.0, 2: 1.9, 3: 2.7, 4: 3.3}
 
 
 def costs():
@@ -19,9 +19,10 @@ def costs():
     return {crate: told.get(crate, USUAL_SECONDS) for crate in sources.needed()}
 
 
-def expected_ends(cost, processors):
-    """Of each crate the second in which its proof would end here, were this machine as fast as the one of docs/GATE.md: as `rt ci` has it, the crates
-    with the longest chain behind them come first, and processors that are left over help those under way."""
+def expected_ends(cost, runs, processors):
+    """Of each crate the second in which its proof would end here, were this machine as fast as the one of docs/GATE.md, where each of these runs proves
+    those of its crates that no run before it does. As `rt ci` has it, the crates with the longest chain behind them come first; what is idle as a crate begins
+    is shared out among those of its run that are ready, each of which counts for two, its proof and its tests; and a crate gets no more later."""
     used, behind = sources.libraries(), {}
 
     def chain(crate):
@@ -31,13 +32,14 @@ def expected_ends(cost, processors):
 
     ends, under_way, now = {}, {}, 0.0
     while len(ends) < len(cost):
-        ready = [crate for crate in cost if crate not in ends and crate not in under_way and all(it in ends for it in used[crate])]
-        ready.sort(key=chain, reverse=True)
-        for at, crate in enumerate(ready):
-            idle = processors - sum(jobs for _, jobs in under_way.values())
-            if idle > 0:
-                jobs = max(1, min(4, idle // (len(ready) - at)))
-                under_way[crate] = now + cost[crate] / GAIN[jobs], jobs
+        for crates in runs:
+            ready = [crate for crate in crates if crate not in ends and crate not in under_way and all(it in ends for it in used[crate])]
+            ready.sort(key=chain, reverse=True)
+            for at, crate in enumerate(ready):
+                idle = processors - sum(jobs for _, jobs in under_way.values())
+                if idle > 0:
+                    jobs = max(1, min(4, idle // (2 * len(ready) - at)))
+                    under_way[crate] = now + cost[crate] / GAIN[jobs], jobs
         crate = min(under_way, key=lambda it: under_way[it][0])
         now, _ = under_way.pop(crate)
         ends[crate] = now
@@ -55,22 +57,26 @@ def clock(seconds):
 class Progress:
     """What was proved so far, and what that says of the rest."""
 
-    def __init__(self):
+    def __init__(self, runs):
+        self.runs = runs
         self.cost = costs()
         self.whole = sum(self.cost.values())
         self.left = dict(self.cost)
-        self.ends = expected_ends(self.left, processors())
+        self.ends = expected_ends(self.left, self.runs, processors())
+        self.untold = set(self.cost)
         self.done = 0
         self.pace = None
 
     def kept(self, crate):
         """Takes note that a crate was proved by an earlier build."""
+        self.untold.remove(crate)
         self.done += self.cost[crate]
         self.left[crate] = 0
-        self.ends = expected_ends(self.left, processors())
+        self.ends = expected_ends(self.left, self.runs, processors())
 
     def proved(self, crate, gone):
         """Takes note that a crate was proved, these seconds after the start."""
+        self.untold.remove(crate)
         self.done += self.cost[crate]
         self.pace = gone / max(self.reached(), 1)
 

@@ -5,6 +5,7 @@ import hashlib
 import os
 import pathlib
 import shutil
+import typing
 
 ROOT = pathlib.Path(__file__).resolve().parent.parent
 PROGRAM = "streams"
@@ -14,6 +15,16 @@ BUILT = OUT / PROGRAM
 SUM = OUT / "sources.sum"
 # What is proved, and what the program's stored run is made of.
 PROVED, RUN = ("src", "specs", "proofs"), ("args", "stdin", "stdout", "status", "data")
+# Of the crates that wait for each other, the one that is proved longest: what first_of_two is about.
+LONGEST = "ws_node"
+
+
+class Copy(typing.NamedTuple):
+    """What a run of `rt ci` proves: the folder of the copy, its crates, and the crate behind which the next run begins, where there is one."""
+
+    folder: pathlib.Path
+    crates: set
+    next_behind: str = ""
 
 
 @functools.lru_cache(maxsize=None)
@@ -29,16 +40,21 @@ def libraries():
     return {crate: [name for name in row.partition(":")[2].split() if name in rows()] for crate, row in rows().items()}
 
 
-@functools.lru_cache(maxsize=None)
-def needed():
-    """The program's crate and all that it stands on."""
-    found, left = set(), [PROGRAM]
+def with_below(top):
+    """A crate and all that it stands on."""
+    found, left = set(), [top]
     while left:
         crate = left.pop()
         if crate not in found:
             found.add(crate)
             left += libraries()[crate]
     return found
+
+
+@functools.lru_cache(maxsize=None)
+def needed():
+    """The program's crate and all that it stands on."""
+    return with_below(PROGRAM)
 
 
 def look_again():
@@ -52,9 +68,9 @@ def is_source(path, part):
     return path.is_file() and not path.name.startswith(".") and (part in RUN or path.suffix in (".rt", ".antt"))
 
 
-def files(parts, top=ROOT):
+def files(parts, crates, top=ROOT):
     """The files of these parts of the crates, in the checkout or in a copy."""
-    for crate in sorted(needed()):
+    for crate in sorted(crates):
         for part in parts:
             path = top / "crates" / crate / part
             if path.is_dir():
@@ -66,7 +82,7 @@ def files(parts, top=ROOT):
 def sum_of(top=ROOT):
     """A checksum of all that the program is built of."""
     told = hashlib.sha256("\n".join(rows()[crate] for crate in sorted(needed())).encode())
-    for path in [top / "HANDLES", *files(PROVED, top)]:
+    for path in [top / "HANDLES", *files(PROVED, needed(), top)]:
         told.update(f"\n{path.relative_to(top)}\n".encode())
         told.update(path.read_bytes())
     return told.hexdigest()
@@ -95,13 +111,33 @@ def is_built():
     return True
 
 
-def copy_to(room):
+def first_of_two(folder):
+    """What the first of two runs proves, in this folder. As a crate begins, `rt ci` shares the idle processors out among all that are ready, and the crate
+    gets no more later: beside another one LONGEST would have one processor to its end, and what stands on it would wait. So the first run ends with
+    LONGEST, and has no other crate that stands on the last of its libraries, which is the one that stands on the most. Behind that library the second run
+    begins, over all crates: it takes what the first proved, proves the others meanwhile, and waits its turn at LONGEST."""
+    last = max(libraries()[LONGEST], key=lambda it: len(with_below(it)))
+    return Copy(folder, with_below(LONGEST) | {it for it in needed() if last not in with_below(it)}, last)
+
+
+def copies(room, keeps):
+    """Makes the copies that are proved, in the order in which their runs begin. The last one has the program; there is another one where a run can take
+    what that proved."""
+    made = [Copy(room / "whole", needed())]
+    if keeps and LONGEST in needed():
+        made.insert(0, first_of_two(room / "first"))
+    for copy in made:
+        copy_to(copy.folder, copy.crates)
+    return made
+
+
+def copy_to(folder, crates):
     """Copies what the proofs of these crates read: no must-fail edits, no tests, no other program."""
-    for path in files(PROVED + RUN):
-        to = room / path.relative_to(ROOT)
+    for path in files(PROVED + RUN, crates):
+        to = folder / path.relative_to(ROOT)
         to.parent.mkdir(parents=True, exist_ok=True)
         shutil.copyfile(path, to)
-    (room / "crates.txt").write_text("".join(f"{row}\n" for crate, row in rows().items() if crate in needed()))
-    shutil.copyfile(ROOT / "HANDLES", room / "HANDLES")
+    (folder / "crates.txt").write_text("".join(f"{row}\n" for crate, row in rows().items() if crate in crates))
+    shutil.copyfile(ROOT / "HANDLES", folder / "HANDLES")
     # For rt it is the top of a repository.
-    (room / ".git").mkdir()
+    (folder / ".git").mkdir()

@@ -30,11 +30,7 @@ class Launcher(unittest.TestCase):
             path.chmod(0o777)
         shutil.copytree(ROOT / "launcher", self.top / "launcher")
         shutil.copy(ROOT / "streams", self.top)
-        for crate in ("streams", "low", "above"):
-            source = self.top / "crates" / crate / "src"
-            source.mkdir(parents=True)
-            (source / "lib.rt").write_text(f"//! {crate}\n")
-        (self.top / "crates.txt").write_text("low: bytes\nstreams may_wait=1: low\nabove: low\n")
+        self.set_crates("low: bytes", "streams may_wait=1: low", "above: low")
         (self.top / "HANDLES").write_text("Handles allowed: none.\n")
         (self.bin / "rt").symlink_to(STUBS / "rt")
         self.env = {"PATH": f"{self.bin}:{os.environ['PATH']}", "STUB": str(self.stub), "TMPDIR": str(self.tmp)}
@@ -64,9 +60,18 @@ class Launcher(unittest.TestCase):
     def set(self, name, text=""):
         (self.stub / name).write_text(text)
 
-    def calls(self, verb):
+    def set_crates(self, *rows):
+        """Has these rows in crates.txt, and such crates."""
+        for row in rows:
+            crate = re.match(r"\w+", row)[0]
+            source = self.top / "crates" / crate / "src"
+            source.mkdir(parents=True, exist_ok=True)
+            (source / "lib.rt").write_text(f"//! {crate}\n")
+        (self.top / "crates.txt").write_text("".join(f"{row}\n" for row in rows))
+
+    def calls(self, *verbs):
         calls = self.stub / "calls"
-        return [line for line in (calls.read_text().splitlines() if calls.exists() else []) if line.split()[0] == verb]
+        return [line for line in (calls.read_text().splitlines() if calls.exists() else []) if line.split()[0] in verbs]
 
     def run_streams(self, *words, given=b"", program=None, **how):
         how.setdefault("cwd", self.folder)
@@ -347,6 +352,128 @@ class Launcher(unittest.TestCase):
         ran = self.run_streams("run", given=b"x", env={"STREAMS_PROVED": "1"})
         self.assertEqual((ran.returncode, ran.stdout), (0, b"x"), ran.stderr)
         self.assertIn(b"low proved: 50 % of the work", ran.stderr)
+
+    # Two runs of `rt ci`, where the kit keeps what one proved for the other.
+
+    def set_two_runs(self):
+        """Has crates over which such a kit has two runs: the first is ws_realm and ws_node."""
+        self.set_crates("ws_realm: bytes", "ws_script: ws_realm", "ws_node: ws_realm", "streams may_wait=1: ws_node ws_script")
+        self.set("keeps")
+
+    def two_runs_under_way(self):
+        """A build whose second run has begun, with the first held at ws_node and the second at ws_script."""
+        before = len(self.calls("ci"))
+        self.set("hold_ws_node")
+        self.set("hold_ws_script")
+        asked = subprocess.Popen([self.top / "streams", "run"], stdin=subprocess.DEVNULL, stdout=subprocess.PIPE, stderr=subprocess.PIPE, env={**self.env, "STREAMS_PROVED": "1"})
+        self.until(lambda: len(self.calls("ci")) == before + 2, "the second run begins")
+        return asked
+
+    def let_go(self, *crates):
+        for crate in crates:
+            (self.stub / f"hold_{crate}").unlink()
+
+    def told_of(self, said):
+        """The crates that a build told of, with the percentage."""
+        return re.findall(r"^streams: (\w+) (?:proved|is kept): (\d+) % of the work, ", said.decode(), re.MULTILINE)
+
+    def test_two_runs_share_the_work(self):
+        self.set_two_runs()
+        asked = self.two_runs_under_way()
+        self.let_go("ws_script")
+        far = self.top / "crates/streams/out/build.progress"
+        self.until(lambda: far.read_text().startswith("ws_script proved"), "the second run goes on beside the first")
+        self.let_go("ws_node")
+        _, said = asked.communicate(timeout=20)
+        self.assertEqual(asked.returncode, 0, said)
+        self.assertEqual(self.told_of(said), [("ws_realm", "25"), ("ws_script", "50"), ("ws_node", "75"), ("streams", "99")], said)
+        self.assertEqual(
+            self.calls("ci", "proved"),
+            ["ci ws_realm ws_node", "proved ws_realm", "ci ws_realm ws_script ws_node streams", "proved ws_script", "proved ws_node", "proved streams"],
+        )
+        self.assertEqual(list(self.tmp.iterdir()), [])
+        ran = self.run_streams("run", given=b"x")
+        self.assertEqual((ran.returncode, ran.stdout, ran.stderr), (0, b"x", b""))
+
+    def test_with_a_kit_that_keeps_nothing_there_is_one_run(self):
+        self.set_two_runs()
+        (self.stub / "keeps").unlink()
+        self.built()
+        self.assertEqual(self.calls("ci"), ["ci ws_realm ws_script ws_node streams"])
+
+    def test_with_a_kit_beside_which_nothing_can_be_kept_there_is_one_run(self):
+        as_nobody = {"user": NOBODY} if os.geteuid() == 0 else {}
+        beside = self.folder / "beside"
+        shutil.copytree(STUBS, beside / "kit/bin", ignore=shutil.ignore_patterns("__pycache__"))
+        beside.chmod(0o555)
+        self.addCleanup(beside.chmod, 0o755)
+        self.set_two_runs()
+        (self.stub / "keeps").chmod(0o666)
+        (self.top / "crates/streams").chmod(0o777)
+        env = {"PATH": f"{beside / 'kit/bin'}:{self.env['PATH']}", "STREAMS_PROVED": "1"}
+        ran = self.run_streams("run", given=b"x", env=env, **as_nobody)
+        self.assertEqual((ran.returncode, ran.stdout), (0, b"x"), ran.stderr)
+        self.assertEqual(self.calls("ci"), ["ci ws_realm ws_script ws_node streams"])
+
+    def test_a_run_that_fails_ends_the_other_one(self):
+        self.set_two_runs()
+        for fails in ("ws_node", "ws_script"):
+            asked = self.two_runs_under_way()
+            self.set("fails", fails)
+            self.let_go(fails)
+            out, said = asked.communicate(timeout=20)
+            self.assertEqual((asked.returncode, out), (70, b""), said)
+            self.assertEqual(re.findall(r"(\w+) NOT PROVED", said.decode()), [fails])
+            self.assertEqual(said.count(b"a crate could not be proved"), 1, said)
+            self.until(lambda: not self.living(), "a process is left")
+            self.assertEqual(list(self.tmp.iterdir()), [])
+            (self.stub / "fails").unlink()
+
+    def test_a_run_that_fails_before_the_other_one_begins(self):
+        self.set_two_runs()
+        self.set("fails", "ws_realm")
+        said = self.assert_ended(self.run_streams("run", given=b"x", env={"STREAMS_PROVED": "1"}), 70, "a crate could not be proved")
+        self.assertEqual(re.findall(r"(\w+) NOT PROVED", said), ["ws_realm"])
+        self.assertEqual(self.calls("ci"), ["ci ws_realm ws_node"])
+
+    def test_two_runs_that_are_ended_leave_nothing_and_the_next_build_goes_on(self):
+        self.set_two_runs()
+        for number in (signal.SIGINT, signal.SIGTERM):
+            asked = self.two_runs_under_way()
+            asked.send_signal(number)
+            _, said = asked.communicate(timeout=20)
+            self.assertEqual(asked.returncode, 75, said)
+            self.assertIn(b"what was proved is kept, and the next one goes on from there", said)
+            self.until(lambda: not self.living(), "a process is left")
+            self.assertEqual(list(self.tmp.iterdir()), [])
+        self.let_go("ws_node", "ws_script")
+        ran = self.run_streams("run", given=b"x", env={"STREAMS_PROVED": "1"})
+        self.assertEqual((ran.returncode, ran.stdout), (0, b"x"), ran.stderr)
+        self.assertIn(b"ws_realm is kept: 25 % of the work", ran.stderr)
+        self.assertEqual(sorted(crate for crate, _ in self.told_of(ran.stderr)), ["streams", "ws_node", "ws_realm", "ws_script"])
+        self.assertEqual(sorted(self.calls("proved")), ["proved streams", "proved ws_node", "proved ws_realm", "proved ws_script"])
+
+    def test_the_first_of_two_runs_over_the_real_crates(self):
+        sys.path.insert(0, str(ROOT / "launcher"))
+        import sources
+
+        first = sources.first_of_two(self.tmp)
+        self.assertEqual(first.next_behind, "ws_realm")
+        self.assertLessEqual({"ws_node", "ws_realm", "ws_grammar", "ws_plan"}, first.crates)
+        self.assertLessEqual({"ws_script", "ws_runner", "ws_cli", "streams"}, sources.needed() - first.crates)
+        for crate in first.crates:
+            self.assertLessEqual({*sources.libraries()[crate]}, first.crates, crate)
+
+    def test_how_the_time_that_is_left_counts_processors(self):
+        sys.path.insert(0, str(ROOT / "launcher"))
+        import progress
+
+        one, both = {"ws_value": 19}, {"ws_value": 19, "ws_lanes": 19}
+        self.assertEqual(progress.expected_ends(one, [one], 4), {"ws_value": 10})
+        self.assertEqual(progress.expected_ends(both, [both], 4), {"ws_value": 19, "ws_lanes": 19})
+        self.assertEqual(progress.expected_ends(both, [one, both], 4), {"ws_value": 10, "ws_lanes": 19})
+
+    # A build that is killed or fails.
 
     def test_a_killed_build_leaves_no_process(self):
         self.set("ci_seconds", "60")
