@@ -14,7 +14,7 @@ use Rattle.ws_flow.specs.Plans.{as_one, reach, stages_of}
 use Rattle.ws_flow.specs.Stages.{machines}
 use Rattle.ws_flow.specs.Told.{bytes_of, Mark, Open, Closed, Told, told, IsBefore}
 use Rattle.ws_flow.proofs.Cutting.{some_joined}
-use Rattle.ws_node.specs.Copies.{AllowsCopy, Copies}
+use Rattle.ws_node_rules.specs.Copies.{AllowsCopy, Copies}
 use Rattle.ws_node.specs.Ends.{Allows, Ends, IsAborted, ending_of, out_of}
 
 -- the plan without stages and workers

@@ -14,7 +14,7 @@ use Rattle.ws_grammar.specs.declared.line.Line.{Line}
 use Rattle.ws_grammar.specs.Lines.{lines, most_bytes}
 use Rattle.ws_script.specs.Ends.{ScriptEnds}
 use Rattle.ws_cli.specs.Check.{Shelf, PerformsCheck, heard_by}
-use Rattle.ws_node.specs.Copies.{Copies}
+use Rattle.ws_node_rules.specs.Copies.{Copies}
 use Rattle.ws_runner.specs.declared.trace.EdgeTrace.{EdgeTrace}
 use Rattle.ws_cli.specs.Generating.{PerformsGeneration}
 use Rattle.ws_cli.specs.Planned.{PerformsRun}

@@ -3,7 +3,7 @@ ghost use Rattle.std.specs.Prelude.{◌≡◌, ◌^◌, []};
 ghost use Rattle.ws_io.specs.Emptied.{LeavesNothing};
 ghost use Rattle.ws_io.specs.Gain.{IsEmptied};
 ghost use Rattle.ws_io.specs.Moment.{moment};
-ghost use Rattle.ws_node.specs.Copies.{Copies};
+ghost use Rattle.ws_node_rules.specs.Copies.{Copies};
 ghost use Rattle.ws_cli.specs.Check.{shelf};
 ghost use Rattle.ws_cli.specs.Planned.{PerformsRun};
 

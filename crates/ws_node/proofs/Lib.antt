@@ -1,17 +1,12 @@
-mod Examples
 pub mod Acting
 pub mod Ahead
 pub mod Alike
-pub mod Alone
 pub mod Answering
 pub mod Asking
-pub mod AtEnd
-pub mod AtOnce
 pub mod Begun
 pub mod Between
 pub mod Bytes
 pub mod Called
-pub mod Causes
 pub mod Changes
 pub mod Credit
 pub mod Delivering
@@ -22,9 +17,7 @@ pub mod Entries
 pub mod Fair
 pub mod Fairly
 pub mod FairRows
-pub mod Finish
 pub mod Firsts
-pub mod Flow
 pub mod Fresh
 pub mod Giving
 pub mod Going
@@ -37,7 +30,6 @@ pub mod InOrder
 pub mod Legal
 pub mod Nearing
 pub mod MakingNodes
-pub mod Naming
 pub mod Ones
 pub mod Opening
 pub mod Passing
@@ -58,7 +50,6 @@ pub mod Shut
 pub mod Since
 pub mod SinceNew
 pub mod Sinking
-pub mod Sound
 pub mod Staged
 pub mod StillOpen
 pub mod Taking
@@ -68,7 +59,6 @@ pub mod Telling
 pub mod Tidying
 pub mod Turning
 pub mod Unheard
-pub mod Unprevented
 pub mod Waiting
 pub mod Worked
 pub mod Working

@@ -1,8 +1,6 @@
-pub mod Copies
 pub mod Edges
 pub mod Ends
 pub mod Fair
-pub mod Flow
 pub mod Hears
 pub mod Host
 pub mod Messages
@@ -16,6 +14,5 @@ pub mod Ran
 pub mod Rules
 pub mod Shape
 pub mod Shares
-pub mod Sound
 pub mod Turns
 pub mod Went

@@ -50,7 +50,7 @@ use Rattle.ws_node.specs.Nodes.{Each, AllHaveMet, AreNewFrom, HeadGoes, MiddleGo
 use Rattle.ws_node.specs.Past.{Driven, HasCounts, IsNew}
 use Rattle.ws_node.specs.Shares.{head_of, middle_of, shared, stages_ahead_of, tail_of}
 use Rattle.ws_node.specs.Went.{edge_after, EdgeGoes, FromGoes, InputGoes, OutputGoes, ToGoes}
-use Rattle.ws_node.proofs.Finish.{output-later}
+use Rattle.ws_node_rules.proofs.Finish.{output-later}
 use Rattle.ws_node.proofs.Passing.{Between, first_node, node_between, last_node, nodes_on, SendsFairly, Starts, Passes, Stops, PassOn, tell}
 use Rattle.ws_node.proofs.Sharing.{none-shared}
 use Rattle.ws_node.proofs.SinceNew.{finds_of, inside_of, failed-is, long-is, write-is, edge-unfailed, edge-short, own-stage, has_failed, is_too_long, is_failed, passed-on, sends-fairly, by-input, by-edge, to-output, to-edge, flows-since, first-since, went-since, came-since}

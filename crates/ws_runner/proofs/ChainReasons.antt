@@ -22,7 +22,7 @@ use Rattle.ws_node.specs.Node.{parts, received_at}
 use Rattle.ws_node.specs.Nodes.{Nodes}
 use Rattle.ws_node.specs.Past.{IsCause, Passed, Own}
 use Rattle.ws_node.specs.Rules.{EachNodeSendsDown}
-use Rattle.ws_node.proofs.Naming.{own-named}
+use Rattle.ws_node_rules.proofs.Naming.{own-named}
 use Rattle.ws_node.proofs.SinceNew.{finds_of, passed-on}
 use Rattle.ws_runner.specs.Chain.{HasEnded, EachChainNamesItsReason}
 use Rattle.ws_runner.proofs.ChainEnds.{nodes-tell}

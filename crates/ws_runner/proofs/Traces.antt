@@ -30,7 +30,7 @@ use Rattle.ws_node.specs.Opening.{IsAccepted}
 use Rattle.ws_node.specs.Past.{Driven}
 use Rattle.ws_node.specs.Rules.{EachNodeSendsDown}
 use Rattle.ws_node.specs.Shares.{head_of, tail_of}
-use Rattle.ws_node.proofs.AtOnce.{ends-at_once}
+use Rattle.ws_node_rules.proofs.AtOnce.{ends-at_once}
 use Rattle.ws_node.proofs.Between.{each_edge_keeps_rules}
 use Rattle.ws_node.proofs.Passing.{Starts, PassOn, Stops}
 use Rattle.ws_node.proofs.Pieces.{told-pieces}

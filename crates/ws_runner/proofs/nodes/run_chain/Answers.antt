@@ -1,7 +1,7 @@
 use Rattle.std.proofs.Common.{sym, ◌∙◌, subst, arith}
 use Rattle.ws_io.specs.Moment.{moment}
 use Rattle.ws_node.specs.Nodes.{nodes}
-use Rattle.ws_node.proofs.Causes.{each_node_sends_down}
+use Rattle.ws_node_rules.proofs.Causes.{each_node_sends_down}
 use Rattle.ws_node.proofs.Joining.{joined-at-end}
 use Rattle.ws_runner.specs.Meeting.{AllTraced, TracesAre}
 use Rattle.ws_runner.proofs.Traced.{many-later, traced-later}

@@ -3,8 +3,8 @@ use Rattle.std.specs.Prelude.{Option}
 use Rattle.ws_io.specs.Moment.{moment}
 use Rattle.ws_io.specs.declared.status.Status.{Status}
 use Rattle.ws_node.specs.Ends.{EndsAs}
-use Rattle.ws_node.proofs.AtOnce.{ends-at_once}
-use Rattle.ws_node.proofs.Finish.{ends-from}
+use Rattle.ws_node_rules.proofs.AtOnce.{ends-at_once}
+use Rattle.ws_node_rules.proofs.Finish.{ends-from}
 use Rattle.ws_node.proofs.Going.{went-same, went-then}
 use Rattle.ws_runner.proofs.nodes.run_whole.Goals as goal
 

@@ -1,5 +1,0 @@
-use Rattle.ws_node.proofs.laws.each_node_keeps_flow.Goals as goal
-use Rattle.ws_node.proofs.Flow.{keeps-flow}
-
-pub returns : goal.returns
-returns c = keeps-flow

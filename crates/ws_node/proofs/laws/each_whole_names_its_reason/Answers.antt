@@ -1,5 +1,0 @@
-use Rattle.ws_node.proofs.Naming.{each_whole_names_its_reason}
-use Rattle.ws_node.proofs.laws.each_whole_names_its_reason.Goals as goal
-
-pub returns : goal.returns
-returns c = each_whole_names_its_reason

@@ -1,5 +1,0 @@
-use Rattle.ws_node.proofs.Causes.{each_error_has_its_cause}
-use Rattle.ws_node.proofs.rules.each_error_has_its_cause.Goals as goal
-
-pub returns : goal.returns
-returns c = each_error_has_its_cause

@@ -1,5 +1,0 @@
-use Rattle.ws_node.proofs.Ahead.{each_head_reads_little_ahead}
-use Rattle.ws_node.proofs.rules.each_head_reads_little_ahead.Goals as goal
-
-pub returns : goal.returns
-returns c = each_head_reads_little_ahead
