@@ -1,8 +1,8 @@
 """docs/LAW-STATEMENTS.txt: what each law says, and the definitions by which it says that.
 
-A definition stands there where a law leads to it and it is no part of the model: it is of a crate that has laws, or of
-one of those files of ws_steps that tell of runs. What the model has (values, the outside, and the step table of
-ws_steps) is named there and isn't repeated."""
+A definition stands there where a law leads to it and it is no part of the model: it is of a crate that has laws, of
+ws_node, whose laws stand in ws_node_rules, or of one of those files of ws_steps that tell of runs. What the model has
+(values, the outside, and the step table of ws_steps) is named there and isn't repeated."""
 import hashlib
 import re
 from typing import NamedTuple
@@ -13,7 +13,7 @@ USE = re.compile(r"^(?:pub |ghost )?use (Rattle\.[\w.]+?)(?:\.\{(.*)\}| as (\w+)
 WORD = re.compile(r"[^\s(){}\[\],;]+")
 CONSTRUCTOR = re.compile(r"^  (\S+) :", re.MULTILINE)
 MARKS = ("abbrev", "pub", "unfoldable")
-OF_RUNS = re.compile(r"Rattle\.ws_steps\.specs\.(Histories|Places|Run|Turns|\w*History|\w*Laws)")
+OF_RUNS = re.compile(r"Rattle\.(ws_steps\.specs\.(Histories|Places|Run|Turns|\w*History|\w*Laws)|ws_node\.specs\.\w+)")
 ABOUT = """\
 What each law says, as the checker reads it, without comments; LAWS.md says it in words. .ci/pages.py writes this file,
 and the gate refuses one that is older than its sources: so a change of a law, or of a definition by which it says what
